@@ -1,6 +1,6 @@
 //! What a record's body is made of.
 ghost use mathlib.Core.Path.{_≡_};
-ghost use Prim.Native.Nat.{ℕ, _+_, _*_};
+ghost use Prim.Native.Nat.{ℕ, _+_, _*_, _≤_};
 ghost use lib.ListN.{length};
 ghost use Rattle.std.specs.Finite.{nth};
 ghost use Rattle.std.specs.Options.{Cases as BySome};
@@ -104,7 +104,8 @@ impl Cases {
 
     /// The words of a case, counted from 0 in order of declaration.
     pub fn case(self, byte: u8) -> Option<&'static [Word]>
-        ensures { λ r. ⌜ BySome r (nth (cases-of self) byte ≡ None) (λ ws. nth (cases-of self) byte ≡ Some (now ws)) ⌝ }
+        ensures row { λ r. ⌜ BySome r (nth (cases-of self) byte ≡ None) (λ ws. nth (cases-of self) byte ≡ Some (now ws)) ⌝ }
+        ensures few { λ r. ⌜ BySome r (Unit {0}) (λ ws. length (now ws) ≤ 8) ⌝ }
     {
         match (self, byte) {
             (Cases::Bool, 0..=1) => Some(&[]),
