@@ -1,0 +1,157 @@
+//! What a command line asks for.
+ghost use mathlib.Core.Path.{_≡_};
+ghost use Rattle.std.specs.Of.String.{string-bytes};
+ghost use Rattle.std.specs.shelf.Text.{sameBytes};
+ghost use Rattle.command.specs.Command.{dashed, word-of, option-of, command-of, next-of, finished, parsed};
+
+/// What a word behind the command is.
+#[derive(Clone, Copy)]
+pub enum Word {
+    Plain,
+    Help,
+    Version,
+    /// `-`
+    StandardInput,
+    File,
+    /// It begins with `-` and is none of the above.
+    Unknown,
+}
+
+/// How to report.
+#[derive(Clone, Copy)]
+pub struct Options {
+    pub plain: bool,
+    /// Whether an input is named; else standard input is read.
+    pub named: bool,
+}
+
+#[derive(Clone, Copy)]
+pub enum Request {
+    Report(Options),
+    Help,
+    Version,
+}
+
+/// What is wrong with a command line.
+#[derive(Clone, Copy)]
+pub enum Misuse {
+    NoCommand,
+    UnknownCommand,
+    UnknownOption,
+}
+
+fn same(a: &str, b: &str) -> bool
+    ensures { λ r. ⌜ r ≡ sameBytes (now (a .entry)) (now (b .entry)) ⌝ }
+{
+    a == b
+}
+
+fn is_dashed(text: &str) -> bool
+    ensures { λ r. ⌜ r ≡ dashed (now (text .entry)) ⌝ }
+{
+    match text.as_bytes() {
+        [first, ..] => *first == b'-',
+        [] => false,
+    }
+}
+
+impl Word {
+    /// A word behind the command.
+    pub fn read(text: &str) -> Word
+        ensures { λ r. ⌜ r ≡ word-of (now (text .entry)) ⌝ }
+    {
+        if same(text, "--plain") {
+            Word::Plain
+        } else if same(text, "--help") {
+            Word::Help
+        } else if same(text, "-h") {
+            Word::Help
+        } else if same(text, "--version") {
+            Word::Version
+        } else if same(text, "-") {
+            Word::StandardInput
+        } else if is_dashed(text) {
+            Word::Unknown
+        } else {
+            Word::File
+        }
+    }
+}
+
+/// What the words so far come to.
+#[derive(Clone, Copy)]
+enum Progress {
+    /// There is none.
+    Empty,
+    Reporting(Options),
+    Settled(Request),
+    Wrong(Misuse),
+}
+
+fn take_option(word: Word, options: Options) -> Progress
+    ensures { λ r. ⌜ r ≡ option-of word options ⌝ }
+{
+    let Options { plain, named } = options;
+    match word {
+        Word::Plain => Progress::Reporting(Options { plain: true, named }),
+        Word::Help => Progress::Settled(Request::Help),
+        Word::Version => Progress::Settled(Request::Version),
+        Word::StandardInput | Word::File => Progress::Reporting(Options { plain, named: true }),
+        Word::Unknown => Progress::Wrong(Misuse::UnknownOption),
+    }
+}
+
+fn take_command(text: &str) -> Progress
+    ensures { λ r. ⌜ r ≡ command-of (now (text .entry)) ⌝ }
+{
+    if same(text, "report") {
+        Progress::Reporting(Options {
+            plain: false,
+            named: false,
+        })
+    } else if same(text, "--help") {
+        Progress::Settled(Request::Help)
+    } else if same(text, "-h") {
+        Progress::Settled(Request::Help)
+    } else if same(text, "--version") {
+        Progress::Settled(Request::Version)
+    } else {
+        Progress::Wrong(Misuse::UnknownCommand)
+    }
+}
+
+impl Progress {
+    /// One word more.
+    fn next(self, text: &str) -> Progress
+        ensures { λ r. ⌜ r ≡ next-of self (now (text .entry)) ⌝ }
+    {
+        match self {
+            Progress::Empty => take_command(text),
+            Progress::Reporting(options) => take_option(Word::read(text), options),
+            Progress::Settled(request) => Progress::Settled(request),
+            Progress::Wrong(misuse) => Progress::Wrong(misuse),
+        }
+    }
+
+    fn finish(self) -> Result<Request, Misuse>
+        ensures { λ r. ⌜ r ≡ finished self ⌝ }
+    {
+        match self {
+            Progress::Empty => Err(Misuse::NoCommand),
+            Progress::Reporting(options) => Ok(Request::Report(options)),
+            Progress::Settled(request) => Ok(request),
+            Progress::Wrong(misuse) => Err(misuse),
+        }
+    }
+}
+
+/// What a command line, the program's own name aside, asks for.
+pub fn parse(words: &[String]) -> Result<Request, Misuse>
+    ensures { λ r. ⌜ r ≡ parsed string-bytes (now (words .entry)) ⌝ }
+{
+    let mut progress = Progress::Empty;
+    for word in words {
+        progress = progress.next(word.as_str());
+    }
+    progress.finish()
+}

@@ -1,0 +1,3 @@
+//! Names for printing.
+pub mod cases;
+pub mod kinds;
