@@ -1,0 +1,4 @@
+pub mod Placing
+pub mod Blocks
+pub mod Putting
+pub mod Finding

@@ -1,0 +1,3 @@
+pub mod Answer
+pub mod Put
+pub mod Memory

@@ -1,0 +1,14 @@
+//! A draft of records in lent memory.
+pub mod answer;
+mod find;
+mod lookup;
+mod put;
+pub mod slot;
+
+use draft::counts::Counts;
+
+/// A draft: what is counted of its records, which stand in bytes and slots that each call is lent.
+#[derive(Drop)]
+pub struct Draft {
+    counts: Counts,
+}

@@ -1,0 +1,1 @@
+//! Definitions of a module, decoded from records; theorems on them.
