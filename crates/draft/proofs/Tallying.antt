@@ -31,8 +31,8 @@ use Rattle.draft.specs.declared.manner.Turn.the-variants.{Keep, Push, Swap, Po
 use Rattle.draft.specs.declared.counts.Lengths.{Lengths}
 use Rattle.draft.specs.declared.counts.Counts.{Counts}
 use Rattle.draft.specs.Manner.{manner-of, turn-of, statement-motion}
-use Rattle.rules.specs.Module.{Record, Module, Body}
-use Rattle.draft.specs.State.{State, stepped, in-place, too-deep, meets, on-side, turned, deepens, innermost, outer, table-in, table-of, open-after, number-of-next, waiting-after}
+use Rattle.rules.specs.Module.{Record, Module, Body, closed}
+use Rattle.draft.specs.State.{State, stepped, item-of, in-place, too-deep, meets, on-side, turned, deepens, innermost, outer, table-in, table-of, open-after, number-of-next, waiting-after}
 use Rattle.draft.specs.Counting.{bottom-up, stack-of, lengths-of, counts-of, counted, counted-more, moved, top, stacked, turned-stack, waiting-more, advanced}
 use Rattle.draft.specs.Stacking.{Turns}
 use Rattle.draft.proofs.Stepping.{Admits}
@@ -89,8 +89,8 @@ module _ (m : Module) (b : Body) (bs : List Bracket) (w : Waits) (ws : List Reco
   lengths-at (kind.Type t) o h = cc (length-push (m .types) _)
   lengths-at kind.Named o h = refl
   lengths-at kind.EndFunction open-body.Nothing h = let z : _≡_ {A = ℕ} 0 1 = cc in absurd (omega arith)
-  lengths-at kind.EndFunction open-body.Function h = let e : length (m .functions ++ b ∷ []) + 0 ≡ length (m .functions) + 1 = let l = length-push (m .functions) b in omega arith in cc
-  lengths-at kind.EndFunction open-body.EntryPoint h = let e : length (m .entries ++ b ∷ []) + 0 ≡ length (m .entries) + 1 = let l = length-push (m .entries) b in omega arith in cc
+  lengths-at kind.EndFunction open-body.Function h = let e : length (m .functions ++ closed b (item-of (at open-body.Function) r) ∷ []) + 0 ≡ length (m .functions) + 1 = let l = length-push (m .functions) (closed b (item-of (at open-body.Function) r)) in omega arith in cc
+  lengths-at kind.EndFunction open-body.EntryPoint h = let e : length (m .entries ++ closed b (item-of (at open-body.EntryPoint) r) ∷ []) + 0 ≡ length (m .entries) + 1 = let l = length-push (m .entries) (closed b (item-of (at open-body.EntryPoint) r)) in omega arith in cc
   lengths-at (kind.Expression e) open-body.Nothing h = cc (length-push (m .expressions) _)
   lengths-at (kind.Expression e) open-body.Function h = cc (length-push (b .expressions) _)
   lengths-at (kind.Expression e) open-body.EntryPoint h = cc (length-push (b .expressions) _)

@@ -29,7 +29,7 @@ use Rattle.draft.specs.declared.manner.Motion.the-variants as motion
 use Rattle.draft.specs.declared.manner.Turn.{Turn}
 use Rattle.draft.specs.declared.manner.Turn.the-variants.{Keep, Push, Swap, Pop}
 use Rattle.draft.specs.Manner.{manner-of, turn-of}
-use Rattle.rules.specs.Module.{Record, Item, Body, Module, no-module, opened-by, nobody, add-type, add-override, add-constant, add-global, set-special, add-predeclared, add-filter, set-leaf, add-expression, add-function, add-entry, add-argument, set-result, add-local, add-named, add-inner, add-statement}
+use Rattle.rules.specs.Module.{Record, Item, Body, Module, no-module, opened-by, nobody, add-type, add-override, add-constant, add-global, set-special, add-predeclared, add-filter, set-leaf, add-expression, add-function, add-entry, add-argument, set-result, add-local, add-named, add-inner, add-statement, closed}
 
 pub record State : Type 0 where
   -- what has ended
@@ -114,7 +114,7 @@ module-after kind.FunctionResult o b i m = m
 module-after kind.LocalVariable o b i m = m
 module-after (kind.Type t) o b i m = add-type m i
 module-after kind.Named o b i m = m
-module-after kind.EndFunction o b i m = ended o m b
+module-after kind.EndFunction o b i m = ended o m (closed b i)
 module-after (kind.Expression e) o b i m = global-expression o m i
 module-after (kind.Statement c) o b i m = m
 module-after kind.End o b i m = m
