@@ -125,6 +125,13 @@ IMAGES = {
     "wrong_length.img": [record(16, 1, 260), record(23, 2, 0, case(2, ABSENT), 4)[:-1]],
     # an Array of length 0
     "bad_field.img": [record(16, 1, 260), record(23, 2, 0, case(0, 0), 4), record(16, 2, 261)],
+    # a type inside a function
+    "out_of_place.img": [record(11, 1, ABSENT), record(64, 42), record(16, 1, 260), record(31)],
+    # a 65th bracket
+    "too_deep.img": [record(11, 1, ABSENT), *[record(129)] * 65],
+    # a type that comes twice, and a Struct that comes twice with its member
+    "equal_types.img": [record(16, 1, 260), record(16, 1, 260), record(1, 2, 0, ABSENT, 0), record(24, 3, 4),
+                        record(1, 2, 0, ABSENT, 0), record(24, 3, 4), record(16, 4, 261)],
 }
 
 for name, records in IMAGES.items():

@@ -16,13 +16,14 @@ use Rattle.ir.specs.declared.kinds.Kind.{Kind}
 use Rattle.records.specs.Record.{judged}
 use Rattle.draft.specs.Admitted.{Accepted, admitted, image}
 use Rattle.draft.specs.declared.state.SlotTable.{SlotTable}
+use Rattle.arena.specs.declared.Draft.{Draft}
 use Rattle.arena.specs.declared.slot.Slot.{Slot}
 use Rattle.draft.specs.declared.counts.Counts.{Counts}
 use Rattle.draft.specs.Manner.{manner-of}
 use Rattle.rules.specs.Module.{Record}
 use Rattle.draft.specs.State.{State, start, step, stepped, state, table-of, number-of-next}
 use Rattle.draft.specs.Counting.{counts-of, advanced, counted, lengths-of}
-use Rattle.arena.specs.Memory.{table-judged, slot-in, slot-of, layout-from, layout, Holds, next-start, cuts, read-off, Standing}
+use Rattle.arena.specs.Memory.{Stands, Free, table-judged, slot-in, slot-of, layout-from, layout, Holds, next-start, cuts, read-off, Standing}
 use Rattle.draft.proofs.Stepping.{Admits, step-is, state-push, accepted-more, accepted-front, admitted-kind, image-append, image-push, image-more, Counted, counted-so}
 use Rattle.draft.proofs.Tallying.{counts-after, counted-is}
 
@@ -159,3 +160,10 @@ module _ {d : Counts} {bytes : List ℕ} {slots : List Slot} {m : List Record} (
 
   pub record-part : (p a b : ℕ) → p < d .kept → a ≡ length (image (take p m)) → b ≡ length (image (take (p + 1) m)) → between a b bytes ≡ getD m p []
   record-part p a b l e f = ap (λ n. between n b bytes) e ∙ ap (λ n. between (length (image (take p m))) n bytes) f ∙ record-is p l
+
+-- what the records take and what is free is all that is lent
+pub free-now : {d : Draft} {bytes : List ℕ} {slots : List Slot} → Stands d bytes slots → Free d bytes slots
+free-now {d} {bytes} {slots} h = record {
+  bytes-left = let u = used-is h in let w = used-within h in simp length-drop (omega arith);
+  slots-left = let k = kept-is h in let w = kept-within h in simp length-drop (omega arith);
+}

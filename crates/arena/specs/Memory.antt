@@ -79,6 +79,11 @@ free-bytes d bytes = drop (d .counts .used) bytes
 abbrev pub free-slots : Draft → List Slot → List Slot
 free-slots d slots = drop (d .counts .kept) slots
 
+-- what is lent is what the records take and what is free
+pub record Free (d : Draft) (bytes : List ℕ) (slots : List Slot) : Type 0 where
+  pub bytes-left : length (image (records d bytes slots)) + length (free-bytes d bytes) ≡ length bytes
+  pub slots-left : length (records d bytes slots) + length (free-slots d slots) ≡ length slots
+
 -- a call answers as defined, its memory then holds the records that are defined, and a refusal changes nothing
 pub record Kept (defined : Result Answer Refusal × List Record) (answer : Result Answer Refusal) (c : Counts) (bytes : List ℕ) (slots : List Slot) (c′ : Counts) (bytes′ : List ℕ) (slots′ : List Slot) : Type 0 where
   pub answers : answer ≡ defined .0

@@ -5,11 +5,12 @@ ghost use Prim.Native.Nat.{ℕ, _-_, _≤_};
 ghost use lib.ListN.{length, take};
 ghost use Rattle.std.specs.declared.result.Result.the-variants.{Ok};
 ghost use Rattle.draft.specs.State.{state, table-of};
-ghost use Rattle.draft.specs.Counting.{freed};
+ghost use Rattle.draft.specs.Counting.{counts-of, freed};
 ghost use Rattle.draft.specs.Admitted.{image, admitted};
 ghost use Rattle.arena.specs.declared.slot.Slot.{Slot as AnySlot};
 ghost use Rattle.arena.specs.Put.{has-room, added, put-def};
-ghost use Rattle.arena.specs.Memory.{Stands, records, Kept-as};
+ghost use Rattle.arena.specs.Memory.{Stands, records, Free, Kept-as};
+ghost use Rattle.laws.specs.Lawful.{Lawful};
 use crate::Draft;
 use crate::answer::Answer;
 use crate::slot::Slot;
@@ -30,6 +31,14 @@ impl Draft {
         Draft {
             counts: Counts::new(),
         }
+    }
+
+    /// What is counted of its records.
+    pub fn counts(&self) -> Counts
+        ensures value { λ r. ⌜ r ≡ now (self .entry) .counts ⌝ }
+        ensures counted { λ r. ⌜ ((bytes : List ℕ) (slots : List AnySlot) → Stands (now (self .entry)) bytes slots → r ≡ counts-of (state (records (now (self .entry)) bytes slots))) ⌝ }
+    {
+        self.counts
     }
 
     /// Whether one more record fits into so many bytes and slots.
@@ -89,7 +98,9 @@ impl Draft {
         record: &[u8],
     ) -> Result<Answer, Refusal>
         requires { ⌜ Stands (now self) (now bytes) (now slots) ⌝ }
-        ensures { λ r. ⌜ Kept-as (put-def (length (now (bytes .entry))) (length (now (slots .entry))) (records (now (self .entry)) (now (bytes .entry)) (now (slots .entry))) (now («record» .entry))) r (now (self .entry)) (now (bytes .entry)) (now (slots .entry)) (now (self .exit)) (now (bytes .exit)) (now (slots .exit)) ⌝ }
+        ensures kept { λ r. ⌜ Kept-as (put-def (length (now (bytes .entry))) (length (now (slots .entry))) (records (now (self .entry)) (now (bytes .entry)) (now (slots .entry))) (now («record» .entry))) r (now (self .entry)) (now (bytes .entry)) (now (slots .entry)) (now (self .exit)) (now (bytes .exit)) (now (slots .exit)) ⌝ }
+        ensures free { λ _. ⌜ Free (now (self .exit)) (now (bytes .exit)) (now (slots .exit)) ⌝ }
+        ensures lawful { λ _. ⌜ Lawful (records (now (self .exit)) (now (bytes .exit)) (now (slots .exit))) ⌝ }
     {
         let kind = self.counts.admit(record)?;
         if let SlotTable::Types = manner(kind).table {

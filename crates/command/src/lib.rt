@@ -2,12 +2,17 @@
 ghost use mathlib.Core.Path.{_≡_};
 ghost use Rattle.std.specs.Of.String.{string-bytes};
 ghost use Rattle.std.specs.shelf.Text.{sameBytes};
-ghost use Rattle.command.specs.Command.{dashed, word-of, option-of, command-of, next-of, finished, parsed};
+ghost use Rattle.command.specs.Command.{dashed, word-of, digit-more, number-in, bytes-given, slots-given, option-of, command-of, next-of, finished, parsed};
 
 /// What a word behind the command is.
 #[derive(Clone, Copy)]
 pub enum Word {
     Plain,
+    KeepGoing,
+    /// `--bytes`, whose number is the next word.
+    Bytes,
+    /// `--slots`, whose number is the next word.
+    Slots,
     Help,
     Version,
     /// `-`
@@ -21,6 +26,11 @@ pub enum Word {
 #[derive(Clone, Copy)]
 pub struct Options {
     pub plain: bool,
+    /// Whether to go on behind a refused record.
+    pub keep_going: bool,
+    /// How much memory to lend; else as much as the image needs.
+    pub bytes: Option<usize>,
+    pub slots: Option<usize>,
     /// Whether an input is named; else standard input is read.
     pub named: bool,
 }
@@ -38,6 +48,8 @@ pub enum Misuse {
     NoCommand,
     UnknownCommand,
     UnknownOption,
+    /// An option lacks its number.
+    NoNumber,
 }
 
 fn same(a: &str, b: &str) -> bool
@@ -62,6 +74,12 @@ impl Word {
     {
         if same(text, "--plain") {
             Word::Plain
+        } else if same(text, "--keep-going") {
+            Word::KeepGoing
+        } else if same(text, "--bytes") {
+            Word::Bytes
+        } else if same(text, "--slots") {
+            Word::Slots
         } else if same(text, "--help") {
             Word::Help
         } else if same(text, "-h") {
@@ -84,6 +102,9 @@ enum Progress {
     /// There is none.
     Empty,
     Reporting(Options),
+    /// `--bytes` came, and its number is next.
+    AwaitingBytes(Options),
+    AwaitingSlots(Options),
     Settled(Request),
     Wrong(Misuse),
 }
@@ -91,13 +112,73 @@ enum Progress {
 fn take_option(word: Word, options: Options) -> Progress
     ensures { λ r. ⌜ r ≡ option-of word options ⌝ }
 {
-    let Options { plain, named } = options;
     match word {
-        Word::Plain => Progress::Reporting(Options { plain: true, named }),
+        Word::Plain => Progress::Reporting(Options {
+            plain: true,
+            ..options
+        }),
+        Word::KeepGoing => Progress::Reporting(Options {
+            keep_going: true,
+            ..options
+        }),
+        Word::Bytes => Progress::AwaitingBytes(options),
+        Word::Slots => Progress::AwaitingSlots(options),
         Word::Help => Progress::Settled(Request::Help),
         Word::Version => Progress::Settled(Request::Version),
-        Word::StandardInput | Word::File => Progress::Reporting(Options { plain, named: true }),
+        Word::StandardInput | Word::File => Progress::Reporting(Options {
+            named: true,
+            ..options
+        }),
         Word::Unknown => Progress::Wrong(Misuse::UnknownOption),
+    }
+}
+
+/// The number with one digit more.
+fn add_digit(number: Option<u64>, digit: u8) -> Option<u64>
+    ensures { λ r. ⌜ r ≡ digit-more number digit ⌝ }
+{
+    match (number, digit) {
+        (Some(number), b'0'..=b'9') => number.checked_mul(10)?.checked_add(u64::from(digit - b'0')),
+        _ => None,
+    }
+}
+
+/// The number that decimal digits write.
+fn read_number(text: &str) -> Option<u64>
+    ensures { λ r. ⌜ r ≡ number-in (now (text .entry)) ⌝ }
+{
+    let digits = text.as_bytes();
+    if digits.is_empty() {
+        return None;
+    }
+    let mut number = Some(0);
+    for digit in digits {
+        number = add_digit(number, *digit);
+    }
+    number
+}
+
+fn take_bytes(number: Option<u64>, options: Options) -> Progress
+    ensures { λ r. ⌜ r ≡ bytes-given number options ⌝ }
+{
+    match number {
+        Some(number) => Progress::Reporting(Options {
+            bytes: Some(number as usize),
+            ..options
+        }),
+        None => Progress::Wrong(Misuse::NoNumber),
+    }
+}
+
+fn take_slots(number: Option<u64>, options: Options) -> Progress
+    ensures { λ r. ⌜ r ≡ slots-given number options ⌝ }
+{
+    match number {
+        Some(number) => Progress::Reporting(Options {
+            slots: Some(number as usize),
+            ..options
+        }),
+        None => Progress::Wrong(Misuse::NoNumber),
     }
 }
 
@@ -107,6 +188,9 @@ fn take_command(text: &str) -> Progress
     if same(text, "report") {
         Progress::Reporting(Options {
             plain: false,
+            keep_going: false,
+            bytes: None,
+            slots: None,
             named: false,
         })
     } else if same(text, "--help") {
@@ -128,6 +212,8 @@ impl Progress {
         match self {
             Progress::Empty => take_command(text),
             Progress::Reporting(options) => take_option(Word::read(text), options),
+            Progress::AwaitingBytes(options) => take_bytes(read_number(text), options),
+            Progress::AwaitingSlots(options) => take_slots(read_number(text), options),
             Progress::Settled(request) => Progress::Settled(request),
             Progress::Wrong(misuse) => Progress::Wrong(misuse),
         }
@@ -139,6 +225,7 @@ impl Progress {
         match self {
             Progress::Empty => Err(Misuse::NoCommand),
             Progress::Reporting(options) => Ok(Request::Report(options)),
+            Progress::AwaitingBytes(_) | Progress::AwaitingSlots(_) => Err(Misuse::NoNumber),
             Progress::Settled(request) => Ok(request),
             Progress::Wrong(misuse) => Err(misuse),
         }

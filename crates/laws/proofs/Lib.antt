@@ -1,0 +1,3 @@
+pub mod KindBytes
+pub mod Closing
+pub mod Grammatical

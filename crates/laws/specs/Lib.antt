@@ -1,2 +1,3 @@
 pub mod Grammar
 pub mod Decoded
+pub mod Lawful

@@ -3,11 +3,14 @@ mod report;
 mod show;
 
 use crate::report::report;
+use arena::slot::Slot;
 use command::Misuse;
 use command::Options;
 use command::Request;
 use command::Word;
 use command::parse;
+use records::image::Records;
+use records::image::RecordsIterator;
 use std::env;
 use std::fs;
 use std::io;
@@ -17,13 +20,19 @@ use std::io::Write;
 
 const HELP: &str = "modseal: reads images of shader modules
 
-usage: modseal report [--plain] [FILE...]
+usage: modseal report [OPTION...] [FILE...]
        modseal --help | -h | --version
 
-report  prints each record of each FILE, or of standard input where no FILE is
-        named or FILE is -: its index from 0, its offset, its kind and its
-        fields, or the number of its refusal, which ends the report of that image
---plain one line a record: record INDEX KIND ok, or record INDEX KIND refused N";
+report puts each record of each FILE, or of standard input where no FILE is named
+or FILE is -, into a new draft, and prints its index from 0, its offset, its kind,
+the number that it got and its fields, or the number of its refusal, which ends
+the report of that image; and at last how many items each table has
+
+--plain       one line a record: record INDEX KIND NUMBER, or
+              record INDEX KIND refused NUMBER
+--keep-going  go on behind a refused record
+--bytes N     lend the draft N bytes, and
+--slots N     N slots: as many as the image needs where this is not said";
 
 /// What went wrong has been said on standard error.
 #[derive(Drop)]
@@ -35,25 +44,48 @@ fn read_input(rt: &LibcRuntime) -> io::Result<Vec<u8>> {
     Ok(image)
 }
 
-fn show_image(rt: &LibcRuntime, name: &str, image: &[u8], plain: bool) -> io::Result<()> {
+/// How many parts an image has.
+fn count_parts(image: &[u8]) -> usize {
+    let mut count = 0usize;
+    for _ in Records::new(image) {
+        count = count.saturating_add(1);
+    }
+    count
+}
+
+fn show_image(rt: &LibcRuntime, name: &str, image: &[u8], options: Options) -> io::Result<()> {
+    let heap = rt.alloc();
+    let room = options.bytes.unwrap_or(image.len());
+    let places = match options.slots {
+        Some(places) => places,
+        None => count_parts(image),
+    };
+    let mut bytes = vec![in heap; 0u8; room]?;
+    let mut slots = vec![in heap; Slot::EMPTY; places]?;
     let mut out = BufWriter::new(rt.stdout());
-    if !plain {
+    if !options.plain {
         let size = image.len();
         writeln!(out, "image {name}: {size} bytes")?;
     }
-    report(&mut out, image, plain)?;
+    report(
+        &mut out,
+        image,
+        options,
+        bytes.as_mut_slice(),
+        slots.as_mut_slice(),
+    )?;
     out.flush()
 }
 
 /// Reports one input; whether it could be read.
-fn report_input(rt: &LibcRuntime, name: &str, word: Word, plain: bool) -> io::Result<bool> {
+fn report_input(rt: &LibcRuntime, name: &str, word: Word, options: Options) -> io::Result<bool> {
     let read = match word {
         Word::StandardInput => read_input(rt),
         _ => fs::read(rt, name),
     };
     match read {
         Ok(image) => {
-            show_image(rt, name, image.as_slice(), plain)?;
+            show_image(rt, name, image.as_slice(), options)?;
             Ok(true)
         }
         Err(error) => {
@@ -66,13 +98,19 @@ fn report_input(rt: &LibcRuntime, name: &str, word: Word, plain: bool) -> io::Re
 /// Reports every input that the words behind the command name; whether all could be read.
 fn report_all(rt: &LibcRuntime, words: &[String], options: Options) -> io::Result<bool> {
     if !options.named {
-        return report_input(rt, "-", Word::StandardInput, options.plain);
+        return report_input(rt, "-", Word::StandardInput, options);
     }
     let mut all = true;
+    let mut is_number = false;
     for word in words.iter().skip(1) {
         let kind = Word::read(word.as_str());
-        if let Word::File | Word::StandardInput = kind {
-            all = report_input(rt, word.as_str(), kind, options.plain)? && all;
+        match kind {
+            _ if is_number => is_number = false,
+            Word::Bytes | Word::Slots => is_number = true,
+            Word::File | Word::StandardInput => {
+                all = report_input(rt, word.as_str(), kind, options)? && all;
+            }
+            _ => {}
         }
     }
     Ok(all)
@@ -90,6 +128,7 @@ fn complain(rt: &LibcRuntime, words: &[String], misuse: Misuse) -> io::Result<()
                 }
             }
         }
+        (Misuse::NoNumber, _) => eprintln!(rt, "modseal: --bytes and --slots take a number")?,
         _ => eprintln!(rt, "modseal: no command")?,
     }
     eprintln!(rt, "try: modseal --help")
@@ -106,7 +145,7 @@ fn run(rt: &LibcRuntime) -> io::Result<bool> {
             Ok(true)
         }
         Ok(Request::Version) => {
-            println!(rt, "modseal 0.1.0")?;
+            println!(rt, "modseal 0.2.0")?;
             Ok(true)
         }
         Err(misuse) => {

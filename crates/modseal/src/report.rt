@@ -1,6 +1,13 @@
 //! The report of one image.
+ghost use Rattle.arena.specs.Memory.{Stands};
+use crate::show::show_counts;
 use crate::show::show_fields;
-use ir::kinds::Kind;
+use arena::Draft;
+use arena::answer::Answer;
+use arena::slot::Slot;
+use command::Options;
+use draft::refusal::Refusal;
+use names::cases::table_name;
 use names::kinds::kind_name;
 use records::image::Record;
 use records::image::Records;
@@ -9,11 +16,22 @@ use records::judge::Flaw;
 use std::io;
 use std::io::Write;
 
-fn flaw_words(flaw: Flaw) -> &'static str {
-    match flaw {
-        Flaw::NoSuchKind => "no kind has this number",
-        Flaw::WrongLength => "not as long as its kind fixes",
-        Flaw::BadField => "a field holds what it may not",
+/// A part of an image, and where it stands there.
+#[derive(Clone, Copy)]
+struct Part<'a> {
+    index: usize,
+    offset: usize,
+    record: Record<'a>,
+}
+
+fn refusal_words(refusal: Refusal) -> &'static str {
+    match refusal {
+        Refusal::Flawed(Flaw::NoSuchKind) => "no kind has this number",
+        Refusal::Flawed(Flaw::WrongLength) => "not as long as its kind fixes",
+        Refusal::Flawed(Flaw::BadField) => "a field holds what it may not",
+        Refusal::Misplaced => "it may not stand here",
+        Refusal::TooDeep => "64 brackets are open",
+        Refusal::Full => "too few bytes, no slot or no number is left",
     }
 }
 
@@ -25,65 +43,121 @@ fn kind_byte(record: Record<'_>) -> u8 {
     }
 }
 
-fn show_record<W: Write>(out: &mut W, record: Record<'_>, kind: Kind) -> io::Result<()> {
-    let number = kind.number();
-    let name = kind_name(kind);
-    writeln!(out, "{number} {name}")?;
-    match record.bytes {
-        [_, body @ ..] => show_fields(out, kind, body),
-        [] => Ok(()),
-    }
-}
-
-fn show_flaw<W: Write>(out: &mut W, record: Record<'_>, flaw: Flaw) -> io::Result<()> {
-    let byte = kind_byte(record);
-    let number = flaw.number();
-    let words = flaw_words(flaw);
-    writeln!(out, "{byte} refused {number}: {words}")
-}
-
-fn plain_line<W: Write>(out: &mut W, index: usize, record: Record<'_>) -> io::Result<()> {
-    let byte = kind_byte(record);
-    match record.judge() {
-        Ok(_) => writeln!(out, "record {index} {byte} ok"),
-        Err(flaw) => {
-            let number = flaw.number();
+fn show_plain<W: Write>(
+    out: &mut W,
+    part: Part<'_>,
+    answer: Result<Answer, Refusal>,
+) -> io::Result<()> {
+    let index = part.index;
+    let byte = kind_byte(part.record);
+    match answer {
+        Ok(answer) => {
+            let number = answer.number();
+            writeln!(out, "record {index} {byte} {number}")
+        }
+        Err(refusal) => {
+            let number = refusal.number();
             writeln!(out, "record {index} {byte} refused {number}")
         }
     }
 }
 
-fn full_lines<W: Write>(
-    out: &mut W,
-    index: usize,
-    at: usize,
-    record: Record<'_>,
-) -> io::Result<()> {
-    write!(out, "record {index} at {at}: ")?;
-    match record.judge() {
-        Ok(kind) => show_record(out, record, kind),
-        Err(flaw) => show_flaw(out, record, flaw),
+/// The kind, by number and by name where it has one.
+fn show_kind<W: Write>(out: &mut W, record: Record<'_>) -> io::Result<()> {
+    match record.parts() {
+        Ok((kind, _)) => {
+            let number = kind.number();
+            let name = kind_name(kind);
+            write!(out, "{number} {name}")
+        }
+        Err(_) => {
+            let byte = kind_byte(record);
+            write!(out, "{byte}")
+        }
     }
 }
 
-/// Every record of an image, up to the first that is refused.
-pub fn report<W: Write>(out: &mut W, image: &[u8], plain: bool) -> io::Result<()> {
+fn show_answer<W: Write>(out: &mut W, answer: Result<Answer, Refusal>) -> io::Result<()> {
+    match answer {
+        Ok(Answer::Item(handle)) => {
+            let table = table_name(handle.table());
+            let index = handle.index();
+            writeln!(out, " -> {table} {index}")
+        }
+        Ok(Answer::Unnumbered) => writeln!(out, " -> no number"),
+        Err(refusal) => {
+            let number = refusal.number();
+            let words = refusal_words(refusal);
+            writeln!(out, " refused {number}: {words}")
+        }
+    }
+}
+
+fn show_part<W: Write>(
+    out: &mut W,
+    part: Part<'_>,
+    answer: Result<Answer, Refusal>,
+) -> io::Result<()> {
+    let index = part.index;
+    let offset = part.offset;
+    write!(out, "record {index} at {offset}: ")?;
+    show_kind(out, part.record)?;
+    show_answer(out, answer)?;
+    match (part.record.judge(), part.record.bytes) {
+        (Ok(kind), [_, body @ ..]) => show_fields(out, kind, body),
+        _ => Ok(()),
+    }
+}
+
+/// Puts one part and shows the answer; whether it was accepted.
+fn put_part<W: Write>(
+    out: &mut W,
+    draft: &mut Draft,
+    bytes: &mut [u8],
+    slots: &mut [Slot],
+    part: Part<'_>,
+    plain: bool,
+) -> io::Result<bool>
+    requires { ⌜ Stands (now draft) (now bytes) (now slots) ⌝ }
+    ensures { λ _. ⌜ Stands (now (draft .exit)) (now (bytes .exit)) (now (slots .exit)) ⌝ }
+{
+    let answer = draft.put(bytes, slots, part.record.bytes);
+    if plain {
+        show_plain(out, part, answer)?;
+    } else {
+        show_part(out, part, answer)?;
+    }
+    Ok(answer.is_ok())
+}
+
+/// Every record of an image, put into a new draft in the memory that is lent, up to the first that is
+/// refused unless it is to keep going.
+pub fn report<W: Write>(
+    out: &mut W,
+    image: &[u8],
+    options: Options,
+    bytes: &mut [u8],
+    slots: &mut [Slot],
+) -> io::Result<()> {
+    let mut draft = Draft::new();
     let mut records = Records::new(image);
     let mut index = 0usize;
+    let mut offset = 0usize;
     while let Some(record) = records.next() {
-        if plain {
-            plain_line(out, index, record)?;
-        } else {
-            let at = image
-                .len()
-                .saturating_sub(records.rest.len())
-                .saturating_sub(record.bytes.len());
-            full_lines(out, index, at, record)?;
-        }
-        if record.judge().is_err() {
+        let part = Part {
+            index,
+            offset,
+            record,
+        };
+        let accepted = put_part(out, &mut draft, bytes, slots, part, options.plain)?;
+        if !accepted && !options.keep_going {
             break;
         }
         index = index.saturating_add(1);
+        offset = offset.saturating_add(record.bytes.len());
     }
-    Ok(())
+    if options.plain {
+        return Ok(());
+    }
+    show_counts(out, draft.counts(), bytes.len(), slots.len())
 }

@@ -1,4 +1,5 @@
 //! A record in words.
+use draft::counts::Counts;
 use ir::fields::Cases;
 use ir::fields::Field;
 use ir::fields::Word;
@@ -84,4 +85,35 @@ pub fn show_fields<W: Write>(out: &mut W, kind: Kind, body: &[u8]) -> io::Result
         rest = &rest[width..];
     }
     Ok(())
+}
+
+/// How many items each table has, and how much memory is used.
+pub fn show_counts<W: Write>(
+    out: &mut W,
+    counts: Counts,
+    bytes: usize,
+    slots: usize,
+) -> io::Result<()> {
+    let lengths = counts.lengths;
+    let (types, constants, overrides) = (lengths.types, lengths.constants, lengths.overrides);
+    let (globals, filters) = (lengths.globals, lengths.filters);
+    let (expressions, functions, entries) = (
+        lengths.expressions,
+        lengths.functions,
+        lengths.entries,
+    );
+    let (kept, used) = (counts.kept, counts.used);
+    writeln!(
+        out,
+        "tables: types {types}, constants {constants}, overrides {overrides}"
+    )?;
+    writeln!(
+        out,
+        "tables: global variables {globals}, filters {filters}, expressions {expressions}"
+    )?;
+    writeln!(out, "tables: functions {functions}, entry points {entries}")?;
+    writeln!(
+        out,
+        "kept: {kept} records, {used} of {bytes} bytes, {kept} of {slots} slots"
+    )
 }

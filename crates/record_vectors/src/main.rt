@@ -1,36 +1,14 @@
 //! Reads byte strings, one in hexadecimal on each line, and prints for each the number of its
 //! refusal, or 0, and its handles in order of declaration and in the order in which they are tested.
+use hex::decode;
 use ir::handle::Handle;
 use names::cases::table_name;
 use records::image::Record;
-use std::alloc::AllocError;
-use std::alloc::Global;
 use std::io;
 use std::io::BufRead;
 use std::io::BufReader;
 use std::io::BufWriter;
 use std::io::Write;
-
-fn nibble(digit: u8) -> Option<u8> {
-    match digit {
-        b'0'..=b'9' => Some(digit - b'0'),
-        b'a'..=b'f' => Some(digit - b'a' + 10),
-        _ => None,
-    }
-}
-
-/// The bytes that pairs of digits write, up to the first that is none.
-fn decode(heap: Global, text: &[u8]) -> Result<Vec<u8>, AllocError> {
-    let mut bytes = Vec::new(heap);
-    for pair in text.chunks(2) {
-        if let [high, low] = pair {
-            if let (Some(high), Some(low)) = (nibble(*high), nibble(*low)) {
-                bytes.push((high << 4) | low)?;
-            }
-        }
-    }
-    Ok(bytes)
-}
 
 fn show_handle<W: Write>(out: &mut W, handle: Handle) -> io::Result<()> {
     let table = table_name(handle.table());
@@ -80,7 +58,7 @@ fn main(rt: LibcRuntime) -> io::Result<()> {
     let mut out = BufWriter::new(rt.stdout());
     for line in BufReader::new(rt.stdin()).lines(heap) {
         let line = line?;
-        let bytes = decode(heap, line.as_str().as_bytes())?;
+        let bytes = decode(heap, line.as_str())?;
         answer(&mut out, line.as_str(), bytes.as_slice())?;
     }
     out.flush()

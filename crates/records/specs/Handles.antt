@@ -65,7 +65,7 @@ abbrev pub parts-tested : Result (Kind × List ℕ) Flaw → List Handle
 parts-tested (Ok p) = fields-tested (second-first (p .0)) (layout (p .0)) (p .1)
 parts-tested (Err e) = []
 
--- the same handles in the order in which they are tested
+-- the same handles in the order in which those of an expression or a statement are tested
 abbrev pub tested-of : List ℕ → List Handle
 tested-of bytes = parts-tested (parts-of bytes)
 

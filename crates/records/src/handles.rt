@@ -171,8 +171,8 @@ impl Record<'_> {
         }
     }
 
-    /// The handle at a place in the order in which they are tested, or none past the last. They are
-    /// the same handles.
+    /// The handle at a place in the order in which those of an expression or a statement are tested, or
+    /// none past the last. They are the same handles.
     pub fn tested_handle(self, place: usize) -> Option<Handle>
         ensures place { λ r. ⌜ r ≡ nth (tested-of (now (self .entry .bytes))) place ⌝ }
         ensures same { λ r. ⌜ Shuffled (handles-of (now (self .entry .bytes))) (tested-of (now (self .entry .bytes))) ⌝ }
