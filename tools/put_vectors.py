@@ -5,22 +5,10 @@ docs/DRAFTS.md. Run from the repository's root: python3 tools/put_vectors.py
 It shares no code with the crates. The seed is fixed, so that it writes the same lines each time.
 """
 import random
-import re
+
+from format_page import ABSENT, CASED, KINDS
 
 random.seed(20261118)
-page = open("docs/FORMAT.md").read()
-ABSENT = 0xFFFFFFFF
-
-
-def plain(text):
-    return re.sub(r"\[(\w+)\]\(#\w+\)", r"\1", re.sub(r"^`[\w.]+` ", "", text))
-
-
-fields = {}
-for row in re.finditer(r"^\| (\d+) \| [0-9A-F]{2} \| `[\w:]+` \| (.*) \| (\d+) \|$", page, re.M):
-    fields[int(row[1])] = [] if row[2] == "none" else [plain(field) for field in row[2].split("; ")]
-WORDS = {"ArraySize": 1, "SampleLevel": 2, "ImageQuery": 1, "AtomicFunction": 1, "GatherMode": 1, "RayQueryFunction": 2,
-         "RayPipelineFunction": 3, "MeshInfo": 8}
 # a case of each cased field whose words are all unused, or hold a number that is allowed
 CASES = {"ArraySize": (2, ABSENT), "SampleLevel": (0, ABSENT), "ImageQuery": (1, ABSENT), "AtomicFunction": (0, ABSENT),
          "GatherMode": (0, ABSENT), "RayQueryFunction": (3, ABSENT), "RayPipelineFunction": (0, 0), "MeshInfo": (0, ABSENT)}
@@ -29,12 +17,12 @@ CASES = {"ArraySize": (2, ABSENT), "SampleLevel": (0, ABSENT), "ImageQuery": (1,
 def record(kind, seed=0):
     """An accepted record; another seed gives another name or number."""
     data = bytes([kind])
-    for sort in fields[kind]:
+    for sort in KINDS[kind][1]:
         if sort == "flag":
             data += b"\x00"
         elif sort.startswith("cased "):
             case, word = CASES[sort[6:]]
-            data += bytes([case]) + word.to_bytes(4, "little") * WORDS[sort[6:]]
+            data += bytes([case]) + word.to_bytes(4, "little") * len(CASED[sort[6:]][0])
         else:
             data += seed.to_bytes(4, "little")
     return data
@@ -145,17 +133,17 @@ def scripts():
     inside = {"none": [], "block": [129], "accept": [130], "reject": [130, 151], "switch": [131], "case": [131, 153],
               "body": [132], "continuing": [132, 151]}
     for opening in inside.values():
-        for kind in sorted(fields):
+        for kind in sorted(KINDS):
             yield 9999, 999, [record(11)] + [record(k) for k in opening] + [record(kind), record(151), record(133)]
     # every kind outside of a function, in an entry point, and while members or operands wait
-    for kind in sorted(fields):
+    for kind in sorted(KINDS):
         yield 9999, 999, [record(kind), record(kind)]
         yield 9999, 999, [record(12), record(kind), record(kind)]
         yield 9999, 999, [record(1), record(kind), record(24)]
         yield 9999, 999, [record(2), record(kind), record(68)]
         yield 9999, 999, [record(11), record(2), record(kind), record(144)]
     # random lists, some with little memory
-    kinds = sorted(fields) + [2, 1, 24, 68, 144, 151, 151, 31, 11, 64, 129, 16, 16]
+    kinds = sorted(KINDS) + [2, 1, 24, 68, 144, 151, 151, 31, 11, 64, 129, 16, 16]
     for _ in range(400):
         room, places = random.choice([(9999, 999), (random.randrange(300), 999), (9999, random.randrange(20))])
         yield room, places, [record(random.choice(kinds), random.randrange(3)) for _ in range(random.randrange(60))]

@@ -4,31 +4,7 @@
 Run from the repository's root: python3 tools/record_vectors.py
 It shares no code with the crates, so that the page and the crates are held against each other.
 """
-import re
-
-page = open("docs/FORMAT.md").read()
-ABSENT = 0xFFFFFFFF
-
-
-def plain(text):
-    """The sort of a field, without its name and links."""
-    return re.sub(r"\[(\w+)\]\(#\w+\)", r"\1", re.sub(r"^`[\w.]+` ", "", text))
-
-
-kinds = {}
-for row in re.finditer(r"^\| (\d+) \| [0-9A-F]{2} \| `([\w:]+)` \| (.*) \| (\d+) \|$", page, re.M):
-    fields = [] if row[3] == "none" else [plain(field) for field in row[3].split("; ")]
-    kinds[int(row[1])] = (row[2], fields, int(row[4]))
-
-cased = {}
-for table in re.finditer(r"^### (\w+)\n\nIn kinds? .*\n\n((?:\|.*\n)+)", page, re.M):
-    rows = [[cell.strip() for cell in line.strip("|").split("|")] for line in table[2].splitlines()][2:]
-    if table[1] == "MeshInfo":
-        cased[table[1]] = {case: [plain(row[1 + case]) for row in rows] for case in (0, 1)}
-    else:
-        cased[table[1]] = {int(row[0]): [plain(cell) for cell in row[2:]] for row in rows}
-
-assert len(kinds) == 91 and len(cased) == 8
+from format_page import ABSENT, CASED as cased, KINDS as kinds
 
 
 def word(number):

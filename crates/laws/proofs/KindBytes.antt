@@ -18,6 +18,7 @@ use Rattle.ir.proofs.Numbering.{only-number}
 use Rattle.records.specs.declared.judge.Flaw.the-variants.{WrongLength, BadField}
 use Rattle.records.specs.Record.{judged, judged-parts, body-of, fields-fit}
 use Rattle.rules.specs.Module.{Record, Item}
+use Rattle.laws.specs.Decoded.{Starts}
 use Rattle.laws.specs.Grammar.{kind-byte, kinds}
 
 -- a number above the bytes is no row's
@@ -72,6 +73,11 @@ kind-there (Some j) body k h = ap Some (body-kind (eqb (length body) (size-of (l
 pub byte-is : (r : Record) (k : Kind) → judged r ≡ Ok k → kind-byte r ≡ number-of k ∷ []
 byte-is [] k h = let z : _≡_ {A = ℕ} 0 1 = cc in absurd (omega arith)
 byte-is (b ∷ body) k h = ap (λ n. n ∷ []) (numbered k b (kind-there (kind-of b) body k h))
+
+-- a record that is judged well starts with the number of its kind
+pub starts-so : (k : Kind) (r : Record) → judged r ≡ Ok k → Starts r (number-of k)
+starts-so k [] h = let z : _≡_ {A = ℕ} 0 1 = cc in absurd (omega arith)
+starts-so k (b ∷ body) h = (body, ap (λ n. n ∷ body) (numbered k b (kind-there (kind-of b) body k h)))
 
 -- the kinds of items with one more
 pub kinds-push : (xs : List Item) (i : Item) → kinds (xs ++ i ∷ []) ≡ kinds xs ++ kind-byte (i .bytes)
