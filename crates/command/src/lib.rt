@@ -242,3 +242,89 @@ pub fn parse(words: &[String]) -> Result<Request, Misuse>
     }
     progress.finish()
 }
+
+#[cfg(test)]
+mod tests {
+    use super::*;
+    use std::alloc::AllocError;
+    use std::alloc::Global;
+    use std::test::*;
+
+    fn words(heap: Global, line: &str) -> Result<Vec<String>, AllocError> {
+        let mut words = Vec::new(heap);
+        for word in line.split_whitespace() {
+            words.push(String::from_str(heap, word)?)?;
+        }
+        Ok(words)
+    }
+
+    // What a line comes to, as one letter.
+    fn meaning(heap: Global, line: &str) -> Result<char, AllocError> {
+        Ok(
+            match parse(words(heap, line)?.as_slice()) {
+                Ok(Request::Help) => 'h',
+                Ok(Request::Version) => 'v',
+                Ok(Request::Report(Options { plain: true, .. })) => 'p',
+                Ok(
+                    Request::Report(
+                        Options {
+                            keep_going: true,
+                            ..
+                        },
+                    ),
+                ) => 'k',
+                Ok(
+                    Request::Report(
+                        Options {
+                            bytes: Some(10),
+                            slots: None,
+                            ..
+                        },
+                    ),
+                ) => 'b',
+                Ok(
+                    Request::Report(
+                        Options {
+                            bytes: None,
+                            slots: Some(7),
+                            ..
+                        },
+                    ),
+                ) => 's',
+                Ok(Request::Report(Options { named: true, .. })) => 'n',
+                Ok(Request::Report(_)) => 'r',
+                Err(Misuse::NoCommand) => '0',
+                Err(Misuse::UnknownCommand) => '1',
+                Err(Misuse::UnknownOption) => '2',
+                Err(Misuse::NoNumber) => '3',
+            },
+        )
+    }
+
+    #[test]
+    fn commands(rt: LibcRuntime) -> Result<(), Fail> {
+        let heap = rt.alloc();
+        check_eq(meaning(heap, "")?, '0')?;
+        check_eq(meaning(heap, "reprt a")?, '1')?;
+        check_eq(meaning(heap, "--help")?, 'h')?;
+        check_eq(meaning(heap, "-h report")?, 'h')?;
+        check_eq(meaning(heap, "--version")?, 'v')?;
+        check_eq(meaning(heap, "report")?, 'r')?;
+        check_eq(meaning(heap, "report a -")?, 'n')?;
+        check_eq(meaning(heap, "report -")?, 'n')
+    }
+
+    #[test]
+    fn options(rt: LibcRuntime) -> Result<(), Fail> {
+        let heap = rt.alloc();
+        check_eq(meaning(heap, "report a --plain b")?, 'p')?;
+        check_eq(meaning(heap, "report --keep-going a")?, 'k')?;
+        check_eq(meaning(heap, "report --bytes 10 a")?, 'b')?;
+        check_eq(meaning(heap, "report --slots 007")?, 's')?;
+        check_eq(meaning(heap, "report --bytes")?, '3')?;
+        check_eq(meaning(heap, "report --bytes 1x a")?, '3')?;
+        check_eq(meaning(heap, "report --slots 18446744073709551616")?, '3')?;
+        check_eq(meaning(heap, "report a --unknown --help")?, '2')?;
+        check_eq(meaning(heap, "report a --help --unknown")?, 'h')
+    }
+}
