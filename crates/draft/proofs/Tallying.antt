@@ -38,30 +38,55 @@ use Rattle.draft.specs.Stacking.{Turns}
 use Rattle.draft.proofs.Stepping.{Admits}
 
 -- a statement begins and ends no body
-statement-stays : (s : Statement) (x : Lengths) (o : Open) → (moved x (statement-motion s) ≡ x) × (open-after (statement-motion s) o ≡ o)
-statement-stays statement.Emit x o = (refl, refl)
-statement-stays statement.Block x o = (refl, refl)
-statement-stays statement.If x o = (refl, refl)
-statement-stays statement.Switch x o = (refl, refl)
-statement-stays statement.Loop x o = (refl, refl)
-statement-stays statement.Break x o = (refl, refl)
-statement-stays statement.Continue x o = (refl, refl)
-statement-stays statement.Return x o = (refl, refl)
-statement-stays statement.Kill x o = (refl, refl)
-statement-stays statement.ControlBarrier x o = (refl, refl)
-statement-stays statement.MemoryBarrier x o = (refl, refl)
-statement-stays statement.Store x o = (refl, refl)
-statement-stays statement.ImageStore x o = (refl, refl)
-statement-stays statement.Atomic x o = (refl, refl)
-statement-stays statement.ImageAtomic x o = (refl, refl)
-statement-stays statement.WorkGroupUniformLoad x o = (refl, refl)
-statement-stays statement.Call x o = (refl, refl)
-statement-stays statement.RayQuery x o = (refl, refl)
-statement-stays statement.RayPipelineFunction x o = (refl, refl)
-statement-stays statement.SubgroupBallot x o = (refl, refl)
-statement-stays statement.SubgroupGather x o = (refl, refl)
-statement-stays statement.SubgroupCollectiveOperation x o = (refl, refl)
-statement-stays statement.CooperativeStore x o = (refl, refl)
+pub statement-stays : (s : Statement) (o : Open) → open-after (statement-motion s) o ≡ o
+statement-stays statement.Emit o = refl
+statement-stays statement.Block o = refl
+statement-stays statement.If o = refl
+statement-stays statement.Switch o = refl
+statement-stays statement.Loop o = refl
+statement-stays statement.Break o = refl
+statement-stays statement.Continue o = refl
+statement-stays statement.Return o = refl
+statement-stays statement.Kill o = refl
+statement-stays statement.ControlBarrier o = refl
+statement-stays statement.MemoryBarrier o = refl
+statement-stays statement.Store o = refl
+statement-stays statement.ImageStore o = refl
+statement-stays statement.Atomic o = refl
+statement-stays statement.ImageAtomic o = refl
+statement-stays statement.WorkGroupUniformLoad o = refl
+statement-stays statement.Call o = refl
+statement-stays statement.RayQuery o = refl
+statement-stays statement.RayPipelineFunction o = refl
+statement-stays statement.SubgroupBallot o = refl
+statement-stays statement.SubgroupGather o = refl
+statement-stays statement.SubgroupCollectiveOperation o = refl
+statement-stays statement.CooperativeStore o = refl
+
+statement-counts : (s : Statement) (x : Lengths) → moved x (statement-motion s) ≡ x
+statement-counts statement.Emit x = refl
+statement-counts statement.Block x = refl
+statement-counts statement.If x = refl
+statement-counts statement.Switch x = refl
+statement-counts statement.Loop x = refl
+statement-counts statement.Break x = refl
+statement-counts statement.Continue x = refl
+statement-counts statement.Return x = refl
+statement-counts statement.Kill x = refl
+statement-counts statement.ControlBarrier x = refl
+statement-counts statement.MemoryBarrier x = refl
+statement-counts statement.Store x = refl
+statement-counts statement.ImageStore x = refl
+statement-counts statement.Atomic x = refl
+statement-counts statement.ImageAtomic x = refl
+statement-counts statement.WorkGroupUniformLoad x = refl
+statement-counts statement.Call x = refl
+statement-counts statement.RayQuery x = refl
+statement-counts statement.RayPipelineFunction x = refl
+statement-counts statement.SubgroupBallot x = refl
+statement-counts statement.SubgroupGather x = refl
+statement-counts statement.SubgroupCollectiveOperation x = refl
+statement-counts statement.CooperativeStore x = refl
 
 module _ (m : Module) (b : Body) (bs : List Bracket) (w : Waits) (ws : List Record) (n u : ℕ) (r : Record) where
   abbrev at : Open → State
@@ -94,7 +119,7 @@ module _ (m : Module) (b : Body) (bs : List Bracket) (w : Waits) (ws : List Reco
   lengths-at (kind.Expression e) open-body.Nothing h = cc (length-push (m .expressions) _)
   lengths-at (kind.Expression e) open-body.Function h = cc (length-push (b .expressions) _)
   lengths-at (kind.Expression e) open-body.EntryPoint h = cc (length-push (b .expressions) _)
-  lengths-at (kind.Statement c) o h = let s = statement-stays c (lengths-of (at o)) o in let e : open-after (statement-motion c) o ≡ o = s .1 in let f : moved (lengths-of (at o)) (statement-motion c) ≡ lengths-of (at o) = s .0 in cc
+  lengths-at (kind.Statement c) o h = let e : open-after (statement-motion c) o ≡ o = statement-stays c o in let f : moved (lengths-of (at o)) (statement-motion c) ≡ lengths-of (at o) = statement-counts c (lengths-of (at o)) in cc
   lengths-at kind.End o h = refl
   lengths-at kind.EndLoop o h = refl
   lengths-at kind.Case o h = refl

@@ -25,6 +25,7 @@ use Rattle.draft.specs.declared.manner.Motion.the-variants as motion
 use Rattle.draft.specs.Manner.{manner-of, turn-of, statement-motion}
 use Rattle.draft.specs.State.{State, start, stepped, state, innermost, turned, open-after, on-side, meets, item-of, module-after, body-after}
 use Rattle.draft.specs.Admitted.{Accepted}
+use Rattle.draft.proofs.Tallying.{statement-stays}
 use Rattle.draft.proofs.Stepping.{Admits, throughout}
 use Rattle.rules.specs.Module.{Record, Item, Body, Module, closed}
 use Rattle.laws.specs.Grammar.{Block, kinds, Grammatical}
@@ -60,32 +61,6 @@ not-outside : (o : Open) (bs : List Bracket) → on-side o side.Inside ≡ true 
 not-outside open-body.Nothing bs h e = let z : _≡_ {A = ℕ} 0 1 = cc in absurd (omega arith)
 not-outside open-body.Function bs h e = let z : _≡_ {A = ℕ} 0 1 = cc in absurd (omega arith)
 not-outside open-body.EntryPoint bs h e = let z : _≡_ {A = ℕ} 0 1 = cc in absurd (omega arith)
-
--- no statement begins or ends a body
-open-still : (c : Statement) (o : Open) → open-after (statement-motion c) o ≡ o
-open-still statement.Emit o = refl
-open-still statement.Block o = refl
-open-still statement.If o = refl
-open-still statement.Switch o = refl
-open-still statement.Loop o = refl
-open-still statement.Break o = refl
-open-still statement.Continue o = refl
-open-still statement.Return o = refl
-open-still statement.Kill o = refl
-open-still statement.ControlBarrier o = refl
-open-still statement.MemoryBarrier o = refl
-open-still statement.Store o = refl
-open-still statement.ImageStore o = refl
-open-still statement.Atomic o = refl
-open-still statement.ImageAtomic o = refl
-open-still statement.WorkGroupUniformLoad o = refl
-open-still statement.Call o = refl
-open-still statement.RayQuery o = refl
-open-still statement.RayPipelineFunction o = refl
-open-still statement.SubgroupBallot o = refl
-open-still statement.SubgroupGather o = refl
-open-still statement.SubgroupCollectiveOperation o = refl
-open-still statement.CooperativeStore o = refl
 
 -- outside of every body none is
 is-outside : (o : Open) → on-side o side.Outside ≡ true → o ≡ open-body.Nothing
@@ -194,7 +169,7 @@ module _ (s : State) (r : Record) (w : Running s) where
         functions = w .functions;
         entries = w .entries;
         so-far = λ tail x. said (kind.Statement c) (a .kind-is) tail (statement-turn c (s .brackets) tail (p .turns) x);
-        outside = λ o. not-outside (s .opened) _ (p .on) (sym (open-still c (s .opened)) ∙ o);
+        outside = λ o. not-outside (s .opened) _ (p .on) (sym (statement-stays c (s .opened)) ∙ o);
       }
   next kind.End a =
       let p = placed s r kind.End a in

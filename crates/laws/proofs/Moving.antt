@@ -6,6 +6,7 @@ use mathlib.Core.Logic.{_⊎_, inl, inr, ⊎-elim}
 use Prim.Native.Nat.{ℕ, _+_, _-_, _≤_, _<_}
 use native.Mathlib.Omega.{arith}
 use lib.ListN.{length}
+use Rattle.draft.proofs.Tallying.{statement-stays}
 use Rattle.std.specs.shelf.Lists.{All, Has, sumBy}
 use Rattle.std.proofs.shelf.Elements.{has-append-left, has-push}
 use Rattle.std.specs.declared.option.Option.{Option}
@@ -232,32 +233,6 @@ module _ (n : ℕ) (i : Item) (at : i .place ≡ n) (m : Module) (b : Body) wher
         replaced = tt;
         once = λ w. let z = entry-weight w m (closed b i) in let y = closed-weight w b i (good .unended) in omega arith;
       }
-
--- a statement begins and ends no body
-statement-stays : (c : Statement) (o : Open) → open-after (statement-motion c) o ≡ o
-statement-stays statement.Emit o = refl
-statement-stays statement.Block o = refl
-statement-stays statement.If o = refl
-statement-stays statement.Switch o = refl
-statement-stays statement.Loop o = refl
-statement-stays statement.Break o = refl
-statement-stays statement.Continue o = refl
-statement-stays statement.Return o = refl
-statement-stays statement.Kill o = refl
-statement-stays statement.ControlBarrier o = refl
-statement-stays statement.MemoryBarrier o = refl
-statement-stays statement.Store o = refl
-statement-stays statement.ImageStore o = refl
-statement-stays statement.Atomic o = refl
-statement-stays statement.ImageAtomic o = refl
-statement-stays statement.WorkGroupUniformLoad o = refl
-statement-stays statement.Call o = refl
-statement-stays statement.RayQuery o = refl
-statement-stays statement.RayPipelineFunction o = refl
-statement-stays statement.SubgroupBallot o = refl
-statement-stays statement.SubgroupGather o = refl
-statement-stays statement.SubgroupCollectiveOperation o = refl
-statement-stays statement.CooperativeStore o = refl
 
 module _ (n : ℕ) (i : Item) (at : i .place ≡ n) (m : Module) (b : Body) where
   abbrev After : Kind → Open → Type 0

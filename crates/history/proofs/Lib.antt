@@ -1,0 +1,5 @@
+pub mod Keeping
+pub mod Growing
+pub mod Knowing
+pub mod Staying
+pub mod Replaying

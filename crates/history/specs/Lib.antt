@@ -1,0 +1,3 @@
+pub mod Homes
+pub mod Runs
+pub mod Calls

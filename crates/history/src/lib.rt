@@ -1,0 +1,3 @@
+//! Lists of calls on one draft.
+pub mod calls;
+pub mod replay;
