@@ -2,3 +2,5 @@ pub mod Placing
 pub mod Blocks
 pub mod Putting
 pub mod Finding
+pub mod Homes
+pub mod Scanning

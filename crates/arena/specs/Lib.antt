@@ -1,3 +1,4 @@
 pub mod Answer
 pub mod Put
 pub mod Memory
+pub mod Viewing

@@ -4,6 +4,7 @@ mod find;
 mod lookup;
 mod put;
 pub mod slot;
+pub mod view;
 
 use draft::counts::Counts;
 

@@ -1,8 +1,10 @@
 //! Reads images of shader modules, and reports their records.
+mod names;
 mod report;
 mod show;
 
 use crate::report::report;
+use crate::report::report_lent;
 use arena::slot::Slot;
 use command::Misuse;
 use command::Options;
@@ -11,6 +13,7 @@ use command::Word;
 use command::parse;
 use records::image::Records;
 use records::image::RecordsIterator;
+use std::alloc::Global;
 use std::env;
 use std::fs;
 use std::io;
@@ -26,7 +29,8 @@ usage: modseal report [OPTION...] [FILE...]
 report puts each record of each FILE, or of standard input where no FILE is named
 or FILE is -, into a new draft, and prints its index from 0, its offset, its kind,
 the number that it got and its fields, or the number of its refusal, which ends
-the report of that image; and at last how many items each table has
+the report of that image; at last how many items each table has, and what each
+number names
 
 --plain       one line a record: record INDEX KIND NUMBER, or
               record INDEX KIND refused NUMBER
@@ -53,8 +57,13 @@ fn count_parts(image: &[u8]) -> usize {
     count
 }
 
-fn show_image(rt: &LibcRuntime, name: &str, image: &[u8], options: Options) -> io::Result<()> {
-    let heap = rt.alloc();
+/// The report of an image in as much memory as the options say.
+fn report_sized<W: Write>(
+    out: &mut W,
+    heap: Global,
+    image: &[u8],
+    options: Options,
+) -> io::Result<()> {
     let room = options.bytes.unwrap_or(image.len());
     let places = match options.slots {
         Some(places) => places,
@@ -62,18 +71,26 @@ fn show_image(rt: &LibcRuntime, name: &str, image: &[u8], options: Options) -> i
     };
     let mut bytes = vec![in heap; 0u8; room]?;
     let mut slots = vec![in heap; Slot::EMPTY; places]?;
+    report_lent(
+        out,
+        image,
+        options,
+        bytes.as_mut_slice(),
+        slots.as_mut_slice(),
+    )
+}
+
+fn show_image(rt: &LibcRuntime, name: &str, image: &[u8], options: Options) -> io::Result<()> {
+    let heap = rt.alloc();
     let mut out = BufWriter::new(rt.stdout());
     if !options.plain {
         let size = image.len();
         writeln!(out, "image {name}: {size} bytes")?;
     }
-    report(
-        &mut out,
-        image,
-        options,
-        bytes.as_mut_slice(),
-        slots.as_mut_slice(),
-    )?;
+    match (options.bytes, options.slots) {
+        (None, None) => report(&mut out, heap, image, options)?,
+        _ => report_sized(&mut out, heap, image, options)?,
+    }
     out.flush()
 }
 

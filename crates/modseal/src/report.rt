@@ -1,5 +1,8 @@
 //! The report of one image.
+ghost use lib.ListN.{length};
+ghost use denote.Ref.{now};
 ghost use Rattle.arena.specs.Memory.{Stands};
+use crate::names::show_names;
 use crate::show::show_counts;
 use crate::show::show_fields;
 use arena::Draft;
@@ -9,10 +12,14 @@ use command::Options;
 use draft::refusal::Refusal;
 use names::cases::table_name;
 use names::kinds::kind_name;
+use owned::denial::Denial;
+use owned::owned::OwnedDraft;
 use records::image::Record;
 use records::image::Records;
 use records::image::RecordsIterator;
 use records::judge::Flaw;
+use std::alloc::AllocError;
+use std::alloc::Global;
 use std::io;
 use std::io::Write;
 
@@ -22,6 +29,44 @@ struct Part<'a> {
     index: usize,
     offset: usize,
     record: Record<'a>,
+}
+
+/// The parts of an image, one after the other.
+#[derive(Clone, Copy)]
+struct Parts<'a> {
+    records: Records<'a>,
+    index: usize,
+    offset: usize,
+}
+
+impl<'a> Parts<'a> {
+    fn new(image: &'a [u8]) -> Parts<'a> {
+        Parts {
+            records: Records::new(image),
+            index: 0,
+            offset: 0,
+        }
+    }
+}
+
+impl<'a> Iterator for Parts<'a> as PartsIterator {
+    type Item = Part<'a>;
+
+    ghost ends = { λ _. Unit {0} };
+
+    ghost left = { λ s. length (now (s .records .rest)) };
+
+    fn next(&mut self) -> Option<Part<'a>> {
+        let record = self.records.next()?;
+        let part = Part {
+            index: self.index,
+            offset: self.offset,
+            record,
+        };
+        self.index = self.index.saturating_add(1);
+        self.offset = self.offset.saturating_add(record.bytes.len());
+        Some(part)
+    }
 }
 
 fn refusal_words(refusal: Refusal) -> &'static str {
@@ -109,30 +154,57 @@ fn show_part<W: Write>(
     }
 }
 
-/// Puts one part and shows the answer; whether it was accepted.
+/// Shows what put answered for a part; whether to go on behind it.
+fn show_put<W: Write>(
+    out: &mut W,
+    part: Part<'_>,
+    answer: Result<Answer, Refusal>,
+    options: Options,
+) -> io::Result<bool> {
+    if options.plain {
+        show_plain(out, part, answer)?;
+    } else {
+        show_part(out, part, answer)?;
+    }
+    Ok(answer.is_ok() || options.keep_going)
+}
+
+/// What the draft has come to.
+fn show_end<'a, W: Write>(
+    out: &mut W,
+    draft: &'a Draft,
+    bytes: &'a [u8],
+    slots: &'a [Slot],
+    options: Options,
+) -> io::Result<()>
+    requires { ⌜ Stands (now draft) (now bytes) (now slots) ⌝ }
+{
+    if options.plain {
+        return Ok(());
+    }
+    show_counts(out, draft.counts())?;
+    show_names(out, draft.view(bytes, slots))
+}
+
+/// Puts one part into lent memory and shows the answer; whether to go on behind it.
 fn put_part<W: Write>(
     out: &mut W,
     draft: &mut Draft,
     bytes: &mut [u8],
     slots: &mut [Slot],
     part: Part<'_>,
-    plain: bool,
+    options: Options,
 ) -> io::Result<bool>
     requires { ⌜ Stands (now draft) (now bytes) (now slots) ⌝ }
     ensures { λ _. ⌜ Stands (now (draft .exit)) (now (bytes .exit)) (now (slots .exit)) ⌝ }
 {
     let answer = draft.put(bytes, slots, part.record.bytes);
-    if plain {
-        show_plain(out, part, answer)?;
-    } else {
-        show_part(out, part, answer)?;
-    }
-    Ok(answer.is_ok())
+    show_put(out, part, answer, options)
 }
 
 /// Every record of an image, put into a new draft in the memory that is lent, up to the first that is
 /// refused unless it is to keep going.
-pub fn report<W: Write>(
+pub fn report_lent<W: Write>(
     out: &mut W,
     image: &[u8],
     options: Options,
@@ -140,24 +212,34 @@ pub fn report<W: Write>(
     slots: &mut [Slot],
 ) -> io::Result<()> {
     let mut draft = Draft::new();
-    let mut records = Records::new(image);
-    let mut index = 0usize;
-    let mut offset = 0usize;
-    while let Some(record) = records.next() {
-        let part = Part {
-            index,
-            offset,
-            record,
-        };
-        let accepted = put_part(out, &mut draft, bytes, slots, part, options.plain)?;
-        if !accepted && !options.keep_going {
+    let mut parts = Parts::new(image);
+    while let Some(part) = parts.next() {
+        if !put_part(out, &mut draft, bytes, slots, part, options)? {
             break;
         }
-        index = index.saturating_add(1);
-        offset = offset.saturating_add(record.bytes.len());
     }
-    if options.plain {
-        return Ok(());
+    show_end(out, &draft, bytes, slots, options)
+}
+
+/// The same in a draft that owns its memory.
+pub fn report<W: Write>(
+    out: &mut W,
+    heap: Global,
+    image: &[u8],
+    options: Options,
+) -> io::Result<()> {
+    let mut owned = OwnedDraft::new(heap);
+    let mut parts = Parts::new(image);
+    while let Some(part) = parts.next() {
+        let answer = match owned.put(part.record.bytes) {
+            Ok(answer) => Ok(answer),
+            Err(Denial::Refused(refusal)) => Err(refusal),
+            Err(Denial::NoMemory) => return Err(io::Error::from(AllocError)),
+        };
+        if !show_put(out, part, answer, options)? {
+            break;
+        }
     }
-    show_counts(out, draft.counts(), bytes.len(), slots.len())
+    let (draft, bytes, slots) = owned.parts();
+    show_end(out, draft, bytes, slots, options)
 }

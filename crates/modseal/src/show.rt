@@ -88,12 +88,7 @@ pub fn show_fields<W: Write>(out: &mut W, kind: Kind, body: &[u8]) -> io::Result
 }
 
 /// How many items each table has, and how much memory is used.
-pub fn show_counts<W: Write>(
-    out: &mut W,
-    counts: Counts,
-    bytes: usize,
-    slots: usize,
-) -> io::Result<()> {
+pub fn show_counts<W: Write>(out: &mut W, counts: Counts) -> io::Result<()> {
     let lengths = counts.lengths;
     let (types, constants, overrides) = (lengths.types, lengths.constants, lengths.overrides);
     let (globals, filters) = (lengths.globals, lengths.filters);
@@ -112,8 +107,5 @@ pub fn show_counts<W: Write>(
         "tables: global variables {globals}, filters {filters}, expressions {expressions}"
     )?;
     writeln!(out, "tables: functions {functions}, entry points {entries}")?;
-    writeln!(
-        out,
-        "kept: {kept} records, {used} of {bytes} bytes, {kept} of {slots} slots"
-    )
+    writeln!(out, "kept: {kept} records in {used} bytes and {kept} slots")
 }

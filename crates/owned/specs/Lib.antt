@@ -1,0 +1,4 @@
+pub mod Accepts
+pub mod Parts
+pub mod Kept
+pub mod Putting

@@ -1,0 +1,3 @@
+//! A draft that owns its memory.
+pub mod denial;
+pub mod owned;
