@@ -42,6 +42,9 @@ class Draft:
         self.open = False
         self.counts = {}
         self.types = []
+        # for each home and table the places of its items
+        self.standing = {}
+        self.home = "module"
 
     def used(self):
         return sum(len(r) for r in self.kept)
@@ -94,10 +97,15 @@ class Draft:
             self.counts[table] = number + 1
         if table == "type":
             self.types.append((data, tuple(self.waiting)))
+        if table:
+            home = self.home if table in ("inner", "local") else "module"
+            name = "expression" if table in ("inner", "global expression") else table
+            self.standing.setdefault((home, name), []).append(len(self.kept))
         self.kept.append(data)
         self.brackets = brackets
         if kind in (11, 12):
             self.open = True
+            self.home = TABLES[kind] + str(number)
         if kind == 31:
             self.open = False
         if kind in (11, 12, 31):
@@ -108,6 +116,23 @@ class Draft:
         else:
             self.waiting, self.waits = [], None
         return str(number)
+
+
+HOMES = ["module", "function0", "function1", "entry0"]
+NAMES = ["type", "constant", "override", "global", "local", "expression", "function", "filter", "entry"]
+
+
+def lookups(draft):
+    """For each home and table how many items it has, and where the first, the second and the last stand."""
+    text = ""
+    for home in HOMES:
+        text += " |"
+        for name in NAMES:
+            places = draft.standing.get((home, name), [])
+            text += f" {len(places)}"
+            if places:
+                text += f",{places[0]},{places[1] if len(places) > 1 else '-'},{places[-1]},-"
+    return text
 
 
 def scripts():
@@ -142,6 +167,10 @@ def scripts():
         yield 9999, 999, [record(1), record(kind), record(24)]
         yield 9999, 999, [record(2), record(kind), record(68)]
         yield 9999, 999, [record(11), record(2), record(kind), record(144)]
+    # a function's numbers after another function and an entry point, and after hundreds of later puts
+    body = [record(15, 1), record(64, 1), record(64, 2), record(2, 0), record(68, 0), record(31)]
+    yield 99999, 9999, [scalar, record(11, 1), *body, record(11, 2), *body, record(12), *body] + [record(3, 1), record(64, 3)] * 200
+    yield 99999, 9999, [record(11, 1), *body, record(11, 2), record(15, 2), record(64, 5), *[record(129)] * 9]
     # random lists, some with little memory
     kinds = sorted(KINDS) + [2, 1, 24, 68, 144, 151, 151, 31, 11, 64, 129, 16, 16]
     for _ in range(400):
@@ -155,6 +184,6 @@ with open("crates/put_vectors/stdin", "w") as lines, open("crates/put_vectors/st
         draft = Draft(room, places)
         given = [draft.put(data) for data in records]
         lines.write(" ".join([str(room), str(places)] + [data.hex() for data in records]) + "\n")
-        answers.write("".join(answer + " " for answer in given) + f"kept {len(draft.kept)} {draft.used()}\n")
+        answers.write("".join(answer + " " for answer in given) + f"kept {len(draft.kept)} {draft.used()}{lookups(draft)}\n")
         count += 1
 print(count, "scripts")

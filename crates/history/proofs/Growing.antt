@@ -1,4 +1,4 @@
--- One record more: every home keeps its items, and the item that the record makes is where its number says.
+-- One record more: every table keeps its items, and the item that the record makes is where its number says.
 use mathlib.Core.Path.{_≡_, refl, sym, ap, subst, _∙_}
 use mathlib.Core.List.{List, [], _∷_, _++_, map}
 use mathlib.Core.Bool.{true}
@@ -10,25 +10,29 @@ use Rattle.std.specs.Finite.{nth}
 use Rattle.std.proofs.shelf.Tests.{and-parts}
 use Rattle.std.specs.declared.option.Option.the-variants.{Some}
 use Rattle.ir.specs.declared.handle.Handle.{Handle}
+use Rattle.ir.specs.declared.handle.Table.{Table}
+use Rattle.ir.specs.declared.handle.Table.the-variants as handles
 use Rattle.ir.specs.declared.kinds.Kind.{Kind}
 use Rattle.ir.specs.declared.kinds.Kind.the-variants as kind
 use Rattle.ir.specs.declared.kinds.Statement.{Statement}
 use Rattle.ir.specs.declared.kinds.Statement.the-variants as statement
+use Rattle.ir.specs.Handle.{table-of as handle-table}
 use Rattle.rules.specs.Module.{Record, Item, Body, Module, opened-by, add-local, add-inner, closed}
 use Rattle.draft.specs.declared.state.Open.{Open}
 use Rattle.draft.specs.declared.state.Open.the-variants as open-body
 use Rattle.draft.specs.declared.state.Bracket.{Bracket}
 use Rattle.draft.specs.declared.state.Waits.{Waits}
-use Rattle.draft.specs.declared.state.SlotTable.the-variants as table
 use Rattle.draft.specs.declared.manner.Side.the-variants as side
 use Rattle.draft.specs.Manner.{manner-of, statement-motion}
 use Rattle.draft.specs.State.{State, stepped, item-of, on-side, open-after, functions-now, entries-now, module-after, body-after, number-of-next, table-of}
 use Rattle.draft.proofs.Tallying.{statement-stays}
 use Rattle.draft.proofs.Stepping.{Admits}
+use Rattle.arena.specs.declared.answer.Answer.{Answer}
 use Rattle.arena.specs.declared.answer.Answer.the-variants as answer
 use Rattle.arena.specs.Answer.{answered}
-use Rattle.history.specs.Homes.{any-body-items, items-at, home-of}
-use Rattle.history.proofs.Keeping.{nth-push, nth-map, keeps-same, keeps-push, parts-of, Body-on, parts-same, Bodies-on, bodies-front, bodies-last, bodies-same, tables-of, Tables-on, tables-same, State-on, lasting}
+use Rattle.arena.specs.Viewing.{body-items, items-in}
+use Rattle.history.specs.Homes.{home-of}
+use Rattle.history.proofs.Keeping.{nth-push, nth-map, keeps-same, keeps-push, parts-of, Body-on, parts-same, Bodies-on, bodies-front, bodies-last, bodies-same, tables-of, Tables-on, tables-same, State-on}
 
 -- what a record does to the bodies
 data Goes (o : Open) (m : Module) (b : Body) (o′ : Open) (m′ : Module) (b′ : Body) : Type 0 where
@@ -150,16 +154,24 @@ opener-last : (bs : List Body) (i : Item) → nth (map (λ b. b .opener) (bs ++ 
 opener-last bs i = let e : length bs + 0 ≡ length bs = omega arith in ap (nth (map (λ b. b .opener) (bs ++ opened-by i ∷ []))) e ∙ nth-map (λ b. b .opener) (bs ++ opened-by i ∷ []) (length bs) (opened-by i) (nth-push bs (opened-by i))
 
 -- the last of the last body's items
-local-last : (bs : List Body) (b : Body) (i : Item) → nth (any-body-items table.LocalVariables (nth (bs ++ add-local b i ∷ []) (length bs))) (length (b .locals)) ≡ Some i
-local-last bs b i = ap (λ p. nth (any-body-items table.LocalVariables p) (length (b .locals))) (nth-push bs (add-local b i)) ∙ nth-push (b .locals) i
+local-last : (bs : List Body) (b : Body) (i : Item) → nth (body-items handles.LocalVariables (nth (bs ++ add-local b i ∷ []) (length bs))) (length (b .locals)) ≡ Some i
+local-last bs b i = ap (λ p. nth (body-items handles.LocalVariables p) (length (b .locals))) (nth-push bs (add-local b i)) ∙ nth-push (b .locals) i
 
-inner-last : (bs : List Body) (b : Body) (i : Item) → nth (any-body-items table.LocalExpressions (nth (bs ++ add-inner b i ∷ []) (length bs))) (length (b .expressions)) ≡ Some i
-inner-last bs b i = ap (λ p. nth (any-body-items table.LocalExpressions p) (length (b .expressions))) (nth-push bs (add-inner b i)) ∙ nth-push (b .expressions) i
+inner-last : (bs : List Body) (b : Body) (i : Item) → nth (body-items handles.Expressions (nth (bs ++ add-inner b i ∷ []) (length bs))) (length (b .expressions)) ≡ Some i
+inner-last bs b i = ap (λ p. nth (body-items handles.Expressions p) (length (b .expressions))) (nth-push bs (add-inner b i)) ∙ nth-push (b .expressions) i
 
--- the next item of this kind has a home, and gets its number there if it is answered one
-record Placed (s : State) (r : Record) (k : Kind) : Type 0 where
-  lasts : lasting (home-of s k) ≡ true
-  has : (h : Handle) → answered (table-of s k) (number-of-next (table-of s k) s) ≡ answer.Item h → nth (items-at (home-of s k) (stepped k r s)) (number-of-next (table-of s k) s) ≡ Some (item-of s r)
+-- the table of an answer's handle
+abbrev pub answer-table : Answer → Table
+answer-table (answer.Item h) = handle-table h
+answer-table answer.Unnumbered = handles.Types
+
+-- what is answered for the next item of this kind
+abbrev next-answer : State → Kind → Answer
+next-answer s k = answered (table-of s k) (number-of-next (table-of s k) s)
+
+-- the next item of this kind gets its number in its home if it is answered one
+abbrev Placed : State → Record → Kind → Type 0
+Placed s r k = (h : Handle) → next-answer s k ≡ answer.Item h → nth (items-in (home-of s k) (answer-table (next-answer s k)) (stepped k r s)) (number-of-next (table-of s k) s) ≡ Some (item-of s r)
 
 module _ (m : Module) (b : Body) (bs : List Bracket) (w : Waits) (ws : List Record) (n u : ℕ) (r : Record) where
   abbrev at : Open → State
@@ -169,44 +181,42 @@ module _ (m : Module) (b : Body) (bs : List Bracket) (w : Waits) (ws : List Reco
   new = record { place = n; bytes = r; taken = ws }
 
   placed-at : (k : Kind) (o : Open) → on-side o (manner-of k .side) ≡ true → Placed (at o) r k
-  placed-at kind.Member o s = record { lasts = refl; has = λ h e. let z : _≡_ {A = ℕ} 0 1 = cc in absurd (omega arith) }
-  placed-at kind.Operand o s = record { lasts = refl; has = λ h e. let z : _≡_ {A = ℕ} 0 1 = cc in absurd (omega arith) }
-  placed-at kind.Override o s = record { lasts = refl; has = λ h e. nth-push (m .overrides) new }
-  placed-at kind.Constant o s = record { lasts = refl; has = λ h e. nth-push (m .constants) new }
-  placed-at kind.GlobalVariable o s = record { lasts = refl; has = λ h e. nth-push (m .globals) new }
-  placed-at kind.SpecialTypes o s = record { lasts = refl; has = λ h e. let z : _≡_ {A = ℕ} 0 1 = cc in absurd (omega arith) }
-  placed-at kind.Predeclared o s = record { lasts = refl; has = λ h e. let z : _≡_ {A = ℕ} 0 1 = cc in absurd (omega arith) }
-  placed-at kind.Filter o s = record { lasts = refl; has = λ h e. nth-push (m .filters) new }
-  placed-at kind.Leaf o s = record { lasts = refl; has = λ h e. let z : _≡_ {A = ℕ} 0 1 = cc in absurd (omega arith) }
-  placed-at kind.Function open-body.Nothing s = record { lasts = refl; has = λ h e. opener-last (m .functions) new }
+  placed-at kind.Member o s = λ h e. let z : _≡_ {A = ℕ} 0 1 = cc in absurd (omega arith)
+  placed-at kind.Operand o s = λ h e. let z : _≡_ {A = ℕ} 0 1 = cc in absurd (omega arith)
+  placed-at kind.Override o s = λ h e. nth-push (m .overrides) new
+  placed-at kind.Constant o s = λ h e. nth-push (m .constants) new
+  placed-at kind.GlobalVariable o s = λ h e. nth-push (m .globals) new
+  placed-at kind.SpecialTypes o s = λ h e. let z : _≡_ {A = ℕ} 0 1 = cc in absurd (omega arith)
+  placed-at kind.Predeclared o s = λ h e. let z : _≡_ {A = ℕ} 0 1 = cc in absurd (omega arith)
+  placed-at kind.Filter o s = λ h e. nth-push (m .filters) new
+  placed-at kind.Leaf o s = λ h e. let z : _≡_ {A = ℕ} 0 1 = cc in absurd (omega arith)
+  placed-at kind.Function open-body.Nothing s = λ h e. opener-last (m .functions) new
   placed-at kind.Function open-body.Function s = let z : _≡_ {A = ℕ} 0 1 = cc in absurd (omega arith)
   placed-at kind.Function open-body.EntryPoint s = let z : _≡_ {A = ℕ} 0 1 = cc in absurd (omega arith)
-  placed-at kind.EntryPoint open-body.Nothing s = record { lasts = refl; has = λ h e. opener-last (m .entries) new }
+  placed-at kind.EntryPoint open-body.Nothing s = λ h e. opener-last (m .entries) new
   placed-at kind.EntryPoint open-body.Function s = let z : _≡_ {A = ℕ} 0 1 = cc in absurd (omega arith)
   placed-at kind.EntryPoint open-body.EntryPoint s = let z : _≡_ {A = ℕ} 0 1 = cc in absurd (omega arith)
-  placed-at kind.FunctionArgument o s = record { lasts = refl; has = λ h e. let z : _≡_ {A = ℕ} 0 1 = cc in absurd (omega arith) }
-  placed-at kind.FunctionResult o s = record { lasts = refl; has = λ h e. let z : _≡_ {A = ℕ} 0 1 = cc in absurd (omega arith) }
+  placed-at kind.FunctionArgument o s = λ h e. let z : _≡_ {A = ℕ} 0 1 = cc in absurd (omega arith)
+  placed-at kind.FunctionResult o s = λ h e. let z : _≡_ {A = ℕ} 0 1 = cc in absurd (omega arith)
   placed-at kind.LocalVariable open-body.Nothing s = let z : _≡_ {A = ℕ} 0 1 = cc in absurd (omega arith)
-  placed-at kind.LocalVariable open-body.Function s = record { lasts = refl; has = λ h e. local-last (m .functions) b new }
-  placed-at kind.LocalVariable open-body.EntryPoint s = record { lasts = refl; has = λ h e. local-last (m .entries) b new }
-  placed-at (kind.Type t) o s = record { lasts = refl; has = λ h e. nth-push (m .types) new }
-  placed-at kind.Named o s = record { lasts = refl; has = λ h e. let z : _≡_ {A = ℕ} 0 1 = cc in absurd (omega arith) }
-  placed-at kind.EndFunction o s = record { lasts = refl; has = λ h e. let z : _≡_ {A = ℕ} 0 1 = cc in absurd (omega arith) }
-  placed-at (kind.Expression e) open-body.Nothing s = record { lasts = refl; has = λ h is. nth-push (m .expressions) new }
-  placed-at (kind.Expression e) open-body.Function s = record { lasts = refl; has = λ h is. inner-last (m .functions) b new }
-  placed-at (kind.Expression e) open-body.EntryPoint s = record { lasts = refl; has = λ h is. inner-last (m .entries) b new }
-  placed-at (kind.Statement c) o s = record { lasts = refl; has = λ h e. let z : _≡_ {A = ℕ} 0 1 = cc in absurd (omega arith) }
-  placed-at kind.End o s = record { lasts = refl; has = λ h e. let z : _≡_ {A = ℕ} 0 1 = cc in absurd (omega arith) }
-  placed-at kind.EndLoop o s = record { lasts = refl; has = λ h e. let z : _≡_ {A = ℕ} 0 1 = cc in absurd (omega arith) }
-  placed-at kind.Case o s = record { lasts = refl; has = λ h e. let z : _≡_ {A = ℕ} 0 1 = cc in absurd (omega arith) }
-  placed-at kind.EndSwitch o s = record { lasts = refl; has = λ h e. let z : _≡_ {A = ℕ} 0 1 = cc in absurd (omega arith) }
+  placed-at kind.LocalVariable open-body.Function s = λ h e. local-last (m .functions) b new
+  placed-at kind.LocalVariable open-body.EntryPoint s = λ h e. local-last (m .entries) b new
+  placed-at (kind.Type t) o s = λ h e. nth-push (m .types) new
+  placed-at kind.Named o s = λ h e. let z : _≡_ {A = ℕ} 0 1 = cc in absurd (omega arith)
+  placed-at kind.EndFunction o s = λ h e. let z : _≡_ {A = ℕ} 0 1 = cc in absurd (omega arith)
+  placed-at (kind.Expression e) open-body.Nothing s = λ h is. nth-push (m .expressions) new
+  placed-at (kind.Expression e) open-body.Function s = λ h is. inner-last (m .functions) b new
+  placed-at (kind.Expression e) open-body.EntryPoint s = λ h is. inner-last (m .entries) b new
+  placed-at (kind.Statement c) o s = λ h e. let z : _≡_ {A = ℕ} 0 1 = cc in absurd (omega arith)
+  placed-at kind.End o s = λ h e. let z : _≡_ {A = ℕ} 0 1 = cc in absurd (omega arith)
+  placed-at kind.EndLoop o s = λ h e. let z : _≡_ {A = ℕ} 0 1 = cc in absurd (omega arith)
+  placed-at kind.Case o s = λ h e. let z : _≡_ {A = ℕ} 0 1 = cc in absurd (omega arith)
+  placed-at kind.EndSwitch o s = λ h e. let z : _≡_ {A = ℕ} 0 1 = cc in absurd (omega arith)
 
-module _ (s : State) (r : Record) (k : Kind) (a : Admits s r k) where
-  placed : Placed s r k
-  placed = placed-at (s .built) (s .body) (s .brackets) (s .waits) (s .waiting) (s .kept) (s .used) r k (s .opened) (side-fits s r k a)
-
-  pub home-lasts : lasting (home-of s k) ≡ true
-  home-lasts = placed .lasts
-
-  pub home-has : (h : Handle) → answered (table-of s k) (number-of-next (table-of s k) s) ≡ answer.Item h → nth (items-at (home-of s k) (stepped k r s)) (number-of-next (table-of s k) s) ≡ Some (item-of s r)
-  home-has = placed .has
+pub home-has : (s : State) (r : Record) (k : Kind) → Admits s r k → (h : Handle) → answered (table-of s k) (number-of-next (table-of s k) s) ≡ answer.Item h
+    → nth (items-in (home-of s k) (handle-table h) (stepped k r s)) (number-of-next (table-of s k) s) ≡ Some (item-of s r)
+home-has s r k a h e =
+    subst
+    (λ t. nth (items-in (home-of s k) t (stepped k r s)) (number-of-next (table-of s k) s) ≡ Some (item-of s r))
+    (ap answer-table e)
+    (placed-at (s .built) (s .body) (s .brackets) (s .waits) (s .waiting) (s .kept) (s .used) r k (s .opened) (side-fits s r k a) h e)

@@ -1,18 +1,19 @@
 -- Items keep their numbers: from one list to another, from one body to another, and from one state to another.
 use mathlib.Core.Path.{_≡_, refl, sym, ap, subst, _∙_}
 use mathlib.Core.List.{List, [], _∷_, _++_, map}
-use mathlib.Core.Bool.{Bool, true, false}
 use Prim.Native.Nat.{ℕ, zero, suc}
 use native.Mathlib.Omega.{arith}
 use lib.ListN.{length}
 use Rattle.std.specs.Finite.{nth}
 use Rattle.std.specs.declared.option.Option.{Option}
 use Rattle.std.specs.declared.option.Option.the-variants.{Some, None}
+use Rattle.ir.specs.declared.handle.Table.{Table}
+use Rattle.ir.specs.declared.handle.Table.the-variants as handles
 use Rattle.rules.specs.Module.{Item, Body, Module}
-use Rattle.draft.specs.declared.state.SlotTable.{SlotTable}
-use Rattle.draft.specs.declared.state.SlotTable.the-variants as table
 use Rattle.draft.specs.State.{State, functions-now, entries-now}
-use Rattle.history.specs.Homes.{Home, body-items, any-body-items, items-at}
+use Rattle.arena.specs.declared.view.Home.{Home}
+use Rattle.arena.specs.declared.view.Home.the-variants as home
+use Rattle.arena.specs.Viewing.{body-items, items-in}
 
 module _ {X : Type 0} where
   pub nth-front : (xs ys : List X) (n : ℕ) (x : X) → nth xs n ≡ Some x → nth (xs ++ ys) n ≡ Some x
@@ -85,23 +86,20 @@ openers-keep xs ys on n x e =
     let c = on n (b .0) (b .1) in
     nth-map (λ b. b .opener) ys n (c .0) (c .1) ∙ ap Some (sym (c .2 .opener) ∙ b .2)
 
-body-keeps : (t : SlotTable) (b c : Body) → Body-on b c → Keeps (body-items t b) (body-items t c)
-body-keeps table.Unnumbered b c on = keeps-same []
-body-keeps table.Taken b c on = keeps-same []
-body-keeps table.Types b c on = keeps-same []
-body-keeps table.Overrides b c on = keeps-same []
-body-keeps table.Constants b c on = keeps-same []
-body-keeps table.GlobalVariables b c on = keeps-same []
-body-keeps table.Filters b c on = keeps-same []
-body-keeps table.Expressions b c on = keeps-same []
-body-keeps table.Functions b c on = keeps-same []
-body-keeps table.EntryPoints b c on = keeps-same []
-body-keeps table.LocalVariables b c on = on .locals
-body-keeps table.LocalExpressions b c on = on .expressions
+body-keeps : (t : Table) (b c : Body) → Body-on b c → Keeps (body-items t (Some b)) (body-items t (Some c))
+body-keeps handles.Types b c on = keeps-same []
+body-keeps handles.Constants b c on = keeps-same []
+body-keeps handles.Overrides b c on = keeps-same []
+body-keeps handles.GlobalVariables b c on = keeps-same []
+body-keeps handles.LocalVariables b c on = on .locals
+body-keeps handles.Expressions b c on = on .expressions
+body-keeps handles.Functions b c on = keeps-same []
+body-keeps handles.Filters b c on = keeps-same []
+body-keeps handles.EntryPoints b c on = keeps-same []
 
-any-body-keeps : (t : SlotTable) (p q : Option Body) → ((b : Body) → p ≡ Some b → (c : Body) × (q ≡ Some c) × Body-on b c) → Keeps (any-body-items t p) (any-body-items t q)
+any-body-keeps : (t : Table) (p q : Option Body) → ((b : Body) → p ≡ Some b → (c : Body) × (q ≡ Some c) × Body-on b c) → Keeps (body-items t p) (body-items t q)
 any-body-keeps t None q on = λ n x e. let z : _≡_ {A = ℕ} 0 1 = cc in absurd (omega arith)
-any-body-keeps t (Some b) q on = let c = on b refl in subst (λ y. Keeps (body-items t b) (any-body-items t y)) (sym (c .1)) (body-keeps t b (c .0) (c .2))
+any-body-keeps t (Some b) q on = let c = on b refl in subst (λ y. Keeps (body-items t (Some b)) (body-items t y)) (sym (c .1)) (body-keeps t b (c .0) (c .2))
 
 -- the numbered tables of a module that have items and not bodies
 abbrev pub Tables : Type 0
@@ -126,38 +124,15 @@ pub record State-on (s s′ : State) : Type 0 where
   pub functions : Bodies-on (functions-now (s .opened) (s .built) (s .body)) (functions-now (s′ .opened) (s′ .built) (s′ .body))
   pub entries : Bodies-on (entries-now (s .opened) (s .built) (s .body)) (entries-now (s′ .opened) (s′ .built) (s′ .body))
 
--- a table of the whole module, or one of a body that is named
-abbrev lasting-table : SlotTable → Bool
-lasting-table table.Unnumbered = true
-lasting-table table.Taken = true
-lasting-table table.Types = true
-lasting-table table.Overrides = true
-lasting-table table.Constants = true
-lasting-table table.GlobalVariables = true
-lasting-table table.Filters = true
-lasting-table table.Expressions = true
-lasting-table table.Functions = true
-lasting-table table.EntryPoints = true
-lasting-table table.LocalVariables = false
-lasting-table table.LocalExpressions = false
-
-abbrev pub lasting : Home → Bool
-lasting (Home.of-module t) = lasting-table t
-lasting (Home.in-function n t) = true
-lasting (Home.in-entry n t) = true
-
-pub items-keep : (home : Home) → lasting home ≡ true → (s s′ : State) → State-on s s′ → Keeps (items-at home s) (items-at home s′)
-items-keep (Home.of-module table.Unnumbered) l s s′ on = keeps-same []
-items-keep (Home.of-module table.Taken) l s s′ on = keeps-same []
-items-keep (Home.of-module table.Types) l s s′ on = on .tables .types
-items-keep (Home.of-module table.Overrides) l s s′ on = on .tables .overrides
-items-keep (Home.of-module table.Constants) l s s′ on = on .tables .constants
-items-keep (Home.of-module table.GlobalVariables) l s s′ on = on .tables .globals
-items-keep (Home.of-module table.Filters) l s s′ on = on .tables .filters
-items-keep (Home.of-module table.Expressions) l s s′ on = on .tables .expressions
-items-keep (Home.of-module table.Functions) l s s′ on = openers-keep _ _ (on .functions)
-items-keep (Home.of-module table.EntryPoints) l s s′ on = openers-keep _ _ (on .entries)
-items-keep (Home.of-module table.LocalVariables) l s s′ on = let z : _≡_ {A = ℕ} 0 1 = cc in absurd (omega arith)
-items-keep (Home.of-module table.LocalExpressions) l s s′ on = let z : _≡_ {A = ℕ} 0 1 = cc in absurd (omega arith)
-items-keep (Home.in-function n t) l s s′ on = any-body-keeps t _ _ (on .functions n)
-items-keep (Home.in-entry n t) l s s′ on = any-body-keeps t _ _ (on .entries n)
+pub items-keep : (h : Home) (t : Table) (s s′ : State) → State-on s s′ → Keeps (items-in h t s) (items-in h t s′)
+items-keep home.Module handles.Types s s′ on = on .tables .types
+items-keep home.Module handles.Constants s s′ on = on .tables .constants
+items-keep home.Module handles.Overrides s s′ on = on .tables .overrides
+items-keep home.Module handles.GlobalVariables s s′ on = on .tables .globals
+items-keep home.Module handles.LocalVariables s s′ on = keeps-same []
+items-keep home.Module handles.Expressions s s′ on = on .tables .expressions
+items-keep home.Module handles.Functions s s′ on = openers-keep _ _ (on .functions)
+items-keep home.Module handles.Filters s s′ on = on .tables .filters
+items-keep home.Module handles.EntryPoints s s′ on = openers-keep _ _ (on .entries)
+items-keep (home.Function n) t s s′ on = any-body-keeps t _ _ (on .functions n)
+items-keep (home.EntryPoint n) t s s′ on = any-body-keeps t _ _ (on .entries n)

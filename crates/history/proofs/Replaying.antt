@@ -7,7 +7,7 @@ use lib.ListN.{length, take, drop, getD, set}
 use Rattle.std.proofs.shelf.Lists.{take-more, drop-more, set-at, map-append, length-map, length-take-le}
 use Rattle.std.proofs.shelf.Sums.{folded-push}
 use Rattle.ir.specs.declared.handle.Handle.the-variants as handle
-use Rattle.ir.specs.Handle.{index-of}
+use Rattle.ir.specs.Handle.{index-of, table-of as handle-table}
 use Rattle.rules.specs.Module.{Record}
 use Rattle.draft.specs.State.{state}
 use Rattle.arena.specs.Put.{put-def}
@@ -60,7 +60,7 @@ module _ (room places : ℕ) where
   pub still-named : Numbers-stay room places → (puts final : List Record) → final ≡ run room places [] puts → Still-named room places puts (state final)
   still-named law puts final final-is earlier r later k h parts numbered =
       let last : state final ≡ state (run room places (put-kept room places (run room places [] earlier) r) later) = ap state (final-is ∙ ap (run room places []) parts ∙ run-append [] earlier (r ∷ later)) in
-      subst (λ s. Names (home-of (state (run room places [] earlier)) k) s (index-of h) r (state (run room places [] earlier) .waiting)) (sym last) (law .stays earlier r k h later numbered)
+      subst (λ s. Names (home-of (state (run room places [] earlier)) k) (handle-table h) s (index-of h) r (state (run room places [] earlier) .waiting)) (sym last) (law .stays earlier r k h later numbered)
 
   pub one-number-in : Numbers-stay room places → (puts : List Record) → One-number room places puts
   one-number-in law puts a r b q c k l n o parts first second =

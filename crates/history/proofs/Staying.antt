@@ -15,9 +15,11 @@ use Rattle.std.specs.declared.result.Result.{Result}
 use Rattle.std.specs.declared.result.Result.the-variants.{Ok, Err}
 use Rattle.ir.specs.declared.handle.Handle.{Handle}
 use Rattle.ir.specs.declared.handle.Handle.the-variants as handle
+use Rattle.ir.specs.declared.handle.Table.{Table}
+use Rattle.ir.specs.declared.handle.Table.the-variants as handles
 use Rattle.ir.specs.declared.handle.TypeHandle.{TypeHandle}
 use Rattle.ir.specs.declared.kinds.Kind.{Kind}
-use Rattle.ir.specs.Handle.{index-of}
+use Rattle.ir.specs.Handle.{index-of, table-of as handle-table}
 use Rattle.rules.specs.Module.{Record}
 use Rattle.draft.specs.declared.refusal.Refusal.{Refusal}
 use Rattle.draft.specs.declared.refusal.Refusal.the-variants.{Full}
@@ -32,14 +34,17 @@ use Rattle.draft.proofs.Stepping.{admits, step-is, state-push, accepted-more, a
 use Rattle.draft.proofs.Fronts.{fronted-so, front-is, bare}
 use Rattle.arena.specs.declared.answer.Answer.{Answer}
 use Rattle.arena.specs.declared.answer.Answer.the-variants as answer
+use Rattle.arena.specs.declared.view.Home.{Home}
+use Rattle.arena.specs.declared.view.Home.the-variants as home
 use Rattle.arena.specs.Answer.{answered, answer-number}
 use Rattle.arena.specs.Put.{known-from, known, fits, added, put-def}
+use Rattle.arena.specs.Viewing.{items-in}
 use Rattle.arena.proofs.Putting.{put-refused, put-type, put-new, put-other}
 use Rattle.arena.proofs.Blocks.{equal-parts, equal-from}
-use Rattle.history.specs.Homes.{Home, items-at, home-in, home-of}
+use Rattle.history.specs.Homes.{home-in, home-of}
 use Rattle.history.specs.Runs.{put-kept, run, Numbered, Names, Numbers-stay}
-use Rattle.history.proofs.Keeping.{Keeps, keeps-same, bodies-same, tables-of, tables-same, State-on, lasting, items-keep}
-use Rattle.history.proofs.Growing.{step-on, home-lasts, home-has}
+use Rattle.history.proofs.Keeping.{Keeps, keeps-same, bodies-same, tables-of, tables-same, State-on, items-keep}
+use Rattle.history.proofs.Growing.{step-on, answer-table, home-has}
 use Rattle.history.proofs.Knowing.{known-stays, known-next, known-names, known-like}
 
 -- the number of a handle is the one that was answered
@@ -91,13 +96,13 @@ types-or-other table.LocalExpressions = inr (λ e. let z : _≡_ {A = ℕ} 0 1 =
 bare-on : (s : State) (front : List Record) → State-on s (bare s front)
 bare-on s front = record { tables = tables-same (tables-of (s .built)); functions = bodies-same (functions-now (s .opened) (s .built) (s .body)); entries = bodies-same (entries-now (s .opened) (s .built) (s .body)) }
 
--- these records are accepted too, and every home keeps its items
+-- these records are accepted too, and every table keeps its items
 record Run-on (m m′ : List Record) : Type 0 where
   accepted : Accepted start m′
-  keeps : (home : Home) → lasting home ≡ true → Keeps (items-at home (state m)) (items-at home (state m′))
+  keeps : (h : Home) (t : Table) → Keeps (items-in h t (state m)) (items-in h t (state m′))
 
 same-on : (m m′ : List Record) → Accepted start m → m′ ≡ m → Run-on m m′
-same-on m m′ a e = record { accepted = subst (Accepted start) (sym e) a; keeps = λ home l. rw e (keeps-same (items-at home (state m))) }
+same-on m m′ a e = record { accepted = subst (Accepted start) (sym e) a; keeps = λ h t. rw e (keeps-same (items-in h t (state m))) }
 
 front-on : (m m′ : List Record) → Accepted start m → m′ ≡ take (length m - length (state m .waiting)) m → Run-on m m′
 front-on m m′ a e =
@@ -106,7 +111,7 @@ front-on m m′ a e =
     let now : bare (state m) (f .front) ≡ state m′ = sym (ap state is ∙ f .before) in
     record {
       accepted = subst (Accepted start) (sym is) (accepted-front start (f .front) (state m .waiting) (subst (Accepted start) (sym (f .parts)) a));
-      keeps = λ home l. items-keep home l (state m) (state m′) (subst (State-on (state m)) now (bare-on (state m) (f .front)));
+      keeps = λ h t. items-keep h t (state m) (state m′) (subst (State-on (state m)) now (bare-on (state m) (f .front)));
     }
 
 state-more : (m m′ : List Record) (r : Record) (k : Kind) → admitted (state m) r ≡ Ok k → m′ ≡ m ++ r ∷ [] → state m′ ≡ stepped k r (state m)
@@ -115,14 +120,14 @@ state-more m m′ r k ad e = ap state e ∙ state-push m r ∙ step-is (state m)
 more-on : (m m′ : List Record) (r : Record) (k : Kind) → Accepted start m → admitted (state m) r ≡ Ok k → m′ ≡ m ++ r ∷ [] → Run-on m m′
 more-on m m′ r k a ad e = record {
   accepted = subst (Accepted start) (sym e) (accepted-more m r a (ap isOk ad));
-  keeps = λ home l. items-keep home l (state m) (state m′) (subst (State-on (state m)) (sym (state-more m m′ r k ad e)) (step-on (state m) r k (admits (state m) r k ad)));
+  keeps = λ h t. items-keep h t (state m) (state m′) (subst (State-on (state m)) (sym (state-more m m′ r k ad e)) (step-on (state m) r k (admits (state m) r k ad)));
 }
 
-names-later : (home : Home) → lasting home ≡ true → (m m′ : List Record) (n : ℕ) (r : Record) (ws : List Record) → Run-on m m′ → Names home (state m) n r ws → Names home (state m′) n r ws
-names-later home l m m′ n r ws on x = record { item = x .item; has = on .keeps home l n (x .item) (x .has); bytes-are = x .bytes-are; taken-are = x .taken-are }
+names-later : (h : Home) (t : Table) (m m′ : List Record) (n : ℕ) (r : Record) (ws : List Record) → Run-on m m′ → Names h t (state m) n r ws → Names h t (state m′) n r ws
+names-later h t m m′ n r ws on x = record { item = x .item; has = on .keeps h t n (x .item) (x .has); bytes-are = x .bytes-are; taken-are = x .taken-are }
 
 -- an equal type has the bytes, and took the same
-known-named : (s : State) (r : Record) (n : ℕ) → known s r ≡ Some n → Names (Home.of-module table.Types) s n r (s .waiting)
+known-named : (s : State) (r : Record) (n : ℕ) → known s r ≡ Some n → Names home.Module handles.Types s n r (s .waiting)
 known-named s r n kn =
     let q = known-names 0 (s .built .types) (item-of s r) n kn in
     let place : q .0 ≡ n = let f : n ≡ 0 + q .0 = q .2 in omega arith in
@@ -168,15 +173,15 @@ module _ (room places : ℕ) where
   run-on m (r ∷ rs) a =
       let p = put-on m r a in
       let q = run-on (put-kept room places m r) rs (p .accepted) in
-      record { accepted = q .accepted; keeps = λ home l n x e. q .keeps home l n x (p .keeps home l n x e) }
+      record { accepted = q .accepted; keeps = λ h t n x e. q .keeps h t n x (p .keeps h t n x e) }
 
   -- a put that answered an item
   module _ (m : List Record) (r : Record) (k : Kind) (h : Handle) (a : Accepted start m) (x : Numbered room places m r k h) where
     abbrev next : List Record
     next = put-kept room places m r
 
-    abbrev home : Home
-    home = home-of (state m) k
+    abbrev there : Home
+    there = home-of (state m) k
 
     answer-is : (b : Answer) (m′ : List Record) → put-def room places m r ≡ (Ok b, m′) → b ≡ answer.Item h
     answer-is b m′ is = let same : Ok b ≡ Ok (answer.Item h) = sym (ap (λ p. p .0) is) ∙ x .answers in cc
@@ -188,25 +193,25 @@ module _ (room places : ℕ) where
     case-now = put-case m r k (x .admits)
 
     -- right after put, the number names what was put
-    names-case : Put-case m r k → Names home (state next) (index-of h) r (state m .waiting)
+    names-case : Put-case m r k → Names there (handle-table h) (state next) (index-of h) r (state m .waiting)
     names-case (refuses is) = not-full is
     names-case (knows n typed kn is) =
         let number : n ≡ index-of h = answered-index table.Types n h (answer-is _ _ is) in
-        let here : Home.of-module table.Types ≡ home = sym (ap (λ t. home-in (state m) (table-in (state m .opened) t)) typed) in
-        let first = names-later (Home.of-module table.Types) refl m next n r (state m .waiting) (put-on m r a) (known-named (state m) r n kn) in
-        subst (λ o. Names o (state next) (index-of h) r (state m .waiting)) here (subst (λ p. Names (Home.of-module table.Types) (state next) p r (state m .waiting)) number first)
+        let here : home.Module ≡ there = sym (ap (λ t. home-in (state m) (table-in (state m .opened) t)) typed) in
+        let first = names-later home.Module handles.Types m next n r (state m .waiting) (put-on m r a) (known-named (state m) r n kn) in
+        subst (λ o. Names o (handle-table h) (state next) (index-of h) r (state m .waiting)) here (subst (λ t. Names home.Module t (state next) (index-of h) r (state m .waiting)) (ap answer-table (answer-is _ _ is)) (subst (λ p. Names home.Module handles.Types (state next) p r (state m .waiting)) number first))
     names-case (keeps new is) =
         let e = answer-is _ _ is in
         let number : number-of-next (table-of (state m) k) (state m) ≡ index-of h = answered-index _ _ h e in
         record {
           item = item-of (state m) r;
-          has = ap (nth (items-at home (state next))) (sym number) ∙ ap (λ s. nth (items-at home s) (number-of-next (table-of (state m) k) (state m))) (state-more m next r k (x .admits) (ap (λ p. p .1) is)) ∙ home-has (state m) r k (admits (state m) r k (x .admits)) h e;
+          has = ap (nth (items-in there (handle-table h) (state next))) (sym number) ∙ ap (λ s. nth (items-in there (handle-table h) s) (number-of-next (table-of (state m) k) (state m))) (state-more m next r k (x .admits) (ap (λ p. p .1) is)) ∙ home-has (state m) r k (admits (state m) r k (x .admits)) h e;
           bytes-are = refl;
           taken-are = refl;
         }
 
-    stays-so : (later : List Record) → Names home (state (run room places next later)) (index-of h) r (state m .waiting)
-    stays-so later = names-later home (home-lasts (state m) r k (admits (state m) r k (x .admits))) next (run room places next later) (index-of h) r (state m .waiting) (run-on next later (put-on m r a .accepted)) (names-case case-now)
+    stays-so : (later : List Record) → Names there (handle-table h) (state (run room places next later)) (index-of h) r (state m .waiting)
+    stays-so later = names-later there (handle-table h) next (run room places next later) (index-of h) r (state m .waiting) (run-on next later (put-on m r a .accepted)) (names-case case-now)
 
   -- a put that answered a type
   module _ (m : List Record) (r : Record) (k : Kind) (n : TypeHandle) (a : Accepted start m) (x : Numbered room places m r k (handle.Type n)) where
@@ -218,20 +223,20 @@ module _ (room places : ℕ) where
         go (knows o typed kn is) = typed
         go (keeps new is) = answered-type (state m .opened) (manner-of k .table) _ n (answer-is m r k (handle.Type n) a x _ _ is)
 
-    names-type : (later : List Record) → Names (Home.of-module table.Types) (state (run room places (put-kept room places m r) later)) (n .index) r (state m .waiting)
-    names-type later = subst (λ t. Names (home-in (state m) (table-in (state m .opened) t)) (state (run room places (put-kept room places m r) later)) (n .index) r (state m .waiting)) typed-so (stays-so m r k (handle.Type n) a x later)
+    names-type : (later : List Record) → Names home.Module handles.Types (state (run room places (put-kept room places m r) later)) (n .index) r (state m .waiting)
+    names-type later = subst (λ t. Names (home-in (state m) (table-in (state m .opened) t)) handles.Types (state (run room places (put-kept room places m r) later)) (n .index) r (state m .waiting)) typed-so (stays-so m r k (handle.Type n) a x later)
 
     -- right after put, the type is known by that number
     known-after : Put-case m r k → known-from 0 (state (put-kept room places m r) .built .types) (item-of (state m) r) ≡ Some (n .index)
     known-after (refuses is) = not-full m r k (handle.Type n) a x is
     known-after (knows o typed kn is) =
         let number : o ≡ n .index = answered-index table.Types o (handle.Type n) (answer-is m r k (handle.Type n) a x _ _ is) in
-        known-stays 0 (state m .built .types) (state (put-kept room places m r) .built .types) (item-of (state m) r) (n .index) (put-on m r a .keeps (Home.of-module table.Types) refl) (kn ∙ ap Some number)
+        known-stays 0 (state m .built .types) (state (put-kept room places m r) .built .types) (item-of (state m) r) (n .index) (put-on m r a .keeps home.Module handles.Types) (kn ∙ ap Some number)
     known-after (keeps new is) =
         let number : length (state m .built .types) ≡ n .index = ap (λ t. number-of-next (table-in (state m .opened) t) (state m)) (sym typed-so) ∙ answered-index _ _ (handle.Type n) (answer-is m r k (handle.Type n) a x _ _ is) in
         let it = names-type [] in
         let here : nth (state (put-kept room places m r) .built .types) (length (state m .built .types)) ≡ Some (it .item) = ap (nth (state (put-kept room places m r) .built .types)) number ∙ it .has in
-        known-next 0 (state m .built .types) (state (put-kept room places m r) .built .types) (it .item) (item-of (state m) r) (put-on m r a .keeps (Home.of-module table.Types) refl) here (equal-from (it .item) (item-of (state m) r) (it .bytes-are) (it .taken-are)) (new typed-so)
+        known-next 0 (state m .built .types) (state (put-kept room places m r) .built .types) (it .item) (item-of (state m) r) (put-on m r a .keeps home.Module handles.Types) here (equal-from (it .item) (item-of (state m) r) (it .bytes-are) (it .taken-are)) (new typed-so)
         ∙ (let z : 0 + length (state m .built .types) ≡ n .index = omega arith in ap Some z)
 
     -- a type that is known gets its number
@@ -256,7 +261,7 @@ module _ (room places : ℕ) where
 
     same-number : n ≡ o → (r ≡ q) × (state m .waiting ≡ state then .waiting)
     same-number e =
-        let first = names-later (Home.of-module table.Types) refl then (put-kept room places then q) (n .index) r (state m .waiting) (put-on then q (then-on .accepted)) (names-type m r k n a x between) in
+        let first = names-later home.Module handles.Types then (put-kept room places then q) (n .index) r (state m .waiting) (put-on then q (then-on .accepted)) (names-type m r k n a x between) in
         let second = names-type then q l o (then-on .accepted) y [] in
         let both : Some (first .item) ≡ Some (second .item) = sym (first .has) ∙ ap (λ t. nth (state (put-kept room places then q) .built .types) (t .index)) e ∙ second .has in
         let same : first .item ≡ second .item = cc in
@@ -264,7 +269,7 @@ module _ (room places : ℕ) where
 
     same-type : (r ≡ q) × (state m .waiting ≡ state then .waiting) → n ≡ o
     same-type e =
-        let kn : known-from 0 (state then .built .types) (item-of (state m) r) ≡ Some (n .index) = known-stays 0 (state kept .built .types) (state then .built .types) (item-of (state m) r) (n .index) (then-on .keeps (Home.of-module table.Types) refl) (known-after m r k n a x (case-now m r k (handle.Type n) a x)) in
+        let kn : known-from 0 (state then .built .types) (item-of (state m) r) ≡ Some (n .index) = known-stays 0 (state kept .built .types) (state then .built .types) (item-of (state m) r) (n .index) (then-on .keeps home.Module handles.Types) (known-after m r k n a x (case-now m r k (handle.Type n) a x)) in
         let same : n .index ≡ o .index = answers-known then q l o (then-on .accepted) y (n .index) (known-like 0 (state then .built .types) (item-of (state then) q) (item-of (state m) r) (sym (e .0)) (sym (e .1)) ∙ kn) (case-now then q l (handle.Type o) (then-on .accepted) y) in
         ap (λ i. record { index = i }) same
 

@@ -9,16 +9,19 @@ use Rattle.std.specs.declared.option.Option.the-variants.{Some}
 use Rattle.std.specs.declared.result.Result.the-variants.{Ok}
 use Rattle.ir.specs.declared.handle.Handle.{Handle}
 use Rattle.ir.specs.declared.handle.Handle.the-variants as handle
+use Rattle.ir.specs.declared.handle.Table.{Table}
 use Rattle.ir.specs.declared.handle.TypeHandle.{TypeHandle}
 use Rattle.ir.specs.declared.kinds.Kind.{Kind}
-use Rattle.ir.specs.Handle.{index-of}
+use Rattle.ir.specs.Handle.{index-of, table-of as handle-table}
 use Rattle.rules.specs.Module.{Record, Item}
 use Rattle.draft.specs.State.{State, state}
 use Rattle.draft.specs.Admitted.{admitted}
 use Rattle.arena.specs.declared.answer.Answer.{Answer}
 use Rattle.arena.specs.declared.answer.Answer.the-variants as answer
+use Rattle.arena.specs.declared.view.Home.{Home}
 use Rattle.arena.specs.Put.{put-def}
-use Rattle.history.specs.Homes.{Home, items-at, home-of}
+use Rattle.arena.specs.Viewing.{items-in}
+use Rattle.history.specs.Homes.{home-of}
 
 module _ (room places : ℕ) where
   -- the kept records after one put, and after many
@@ -33,10 +36,10 @@ module _ (room places : ℕ) where
     pub admits : admitted (state m) r ≡ Ok k
     pub answers : put-def room places m r .0 ≡ Ok (answer.Item h)
 
--- this number names an item with these bytes that took these records
-pub record Names (home : Home) (s : State) (n : ℕ) (r : Record) (taken : List Record) : Type 0 where
+-- this number names, in that table, an item with these bytes that took these records
+pub record Names (h : Home) (t : Table) (s : State) (n : ℕ) (r : Record) (taken : List Record) : Type 0 where
   pub item : Item
-  pub has : nth (items-at home s) n ≡ Some item
+  pub has : nth (items-in h t s) n ≡ Some item
   pub bytes-are : item .bytes ≡ r
   pub taken-are : item .taken ≡ taken
 
@@ -45,7 +48,7 @@ pub record Numbers-stay (room places : ℕ) : Type 0 where
   -- the number that put answered for r names, after all later puts, an item equal to the one put, in the same table
   pub stays : (earlier : List Record) (r : Record) (k : Kind) (h : Handle) (later : List Record)
       → Numbered room places (run room places [] earlier) r k h
-      → Names (home-of (state (run room places [] earlier)) k) (state (run room places (put-kept room places (run room places [] earlier) r) later)) (index-of h) r (state (run room places [] earlier) .waiting)
+      → Names (home-of (state (run room places [] earlier)) k) (handle-table h) (state (run room places (put-kept room places (run room places [] earlier) r) later)) (index-of h) r (state (run room places [] earlier) .waiting)
   -- two types got one number exactly when they are equal, their members included
   pub one-number : (earlier : List Record) (r : Record) (k : Kind) (n : TypeHandle) (between : List Record) (q : Record) (l : Kind) (o : TypeHandle)
       → Numbered room places (run room places [] earlier) r k (handle.Type n)
@@ -59,7 +62,7 @@ abbrev pub Still-named : ℕ → ℕ → List Record → State → Type 0
 Still-named room places puts last =
     (earlier : List Record) (r : Record) (later : List Record) (k : Kind) (h : Handle) → puts ≡ earlier ++ (r ∷ later)
     → Numbered room places (run room places [] earlier) r k h
-    → Names (home-of (state (run room places [] earlier)) k) last (index-of h) r (state (run room places [] earlier) .waiting)
+    → Names (home-of (state (run room places [] earlier)) k) (handle-table h) last (index-of h) r (state (run room places [] earlier) .waiting)
 
 -- wherever two types stand in a list of puts: they got one number exactly when they agree in their bytes and in what
 -- waited for them
