@@ -1,4 +1,6 @@
 //! A draft of records in lent memory.
+#![tactic(auto)]
+
 pub mod answer;
 mod find;
 mod lookup;

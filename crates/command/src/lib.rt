@@ -1,4 +1,6 @@
 //! What a command line asks for.
+#![tactic(auto)]
+
 ghost use Rattle.std.specs.Prelude.{◌≡◌, string_bytes};
 ghost use Rattle.std.specs.Str.{bytes_eq};
 ghost use Rattle.command.specs.Command.{dashed, word_of, digit_more, number_in, bytes_given, slots_given, option_of, command_of, next_of, finished, parsed};

@@ -1,1 +1,2 @@
 //! stub
+#![tactic(auto)]

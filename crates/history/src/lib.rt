@@ -1,3 +1,5 @@
 //! Lists of calls on one draft.
+#![tactic(auto)]
+
 pub mod calls;
 pub mod replay;

@@ -1,4 +1,6 @@
 //! Kinds of records, the fields of each, and the handles, numbers and ranges that fields hold.
+#![tactic(auto)]
+
 pub mod fields;
 pub mod handle;
 pub mod kinds;

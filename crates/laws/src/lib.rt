@@ -1,1 +1,2 @@
 //! Laws of the module that kept records make.
+#![tactic(auto)]

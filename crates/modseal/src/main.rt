@@ -1,4 +1,6 @@
 //! Reads images of shader modules, and reports their records.
+#![tactic(auto)]
+
 mod names;
 mod report;
 mod show;

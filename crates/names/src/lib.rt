@@ -1,3 +1,5 @@
 //! Names for printing.
+#![tactic(auto)]
+
 pub mod cases;
 pub mod kinds;

@@ -3,13 +3,15 @@
 //! and the number of the refusal; then how many records and bytes are kept; and for each table of the
 //! module, of two functions and of an entry point how many items it has and where the first, the
 //! second and the last stand.
+#![tactic(auto)]
+
 ghost use Rattle.arena.specs.Memory.{Stands};
 ghost use Rattle.arena.specs.Viewing.{Views};
 
 use arena::Draft;
 use arena::slot::Slot;
 use arena::view::{Home, View};
-use hex::decode;
+use hexadecimal::decode;
 use ir::handle::Table;
 use std::alloc::Global;
 use std::io;

@@ -1,6 +1,8 @@
 //! Reads byte strings, one in hexadecimal on each line, and prints for each the number of its
 //! refusal, or 0, and its handles in order of declaration and in the order in which they are tested.
-use hex::decode;
+#![tactic(auto)]
+
+use hexadecimal::decode;
 use ir::handle::Handle;
 use names::cases::table_name;
 use records::image::Record;

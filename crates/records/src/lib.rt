@@ -1,4 +1,6 @@
 //! Records: how an image is cut into them, when one is refused, and which handles one holds.
+#![tactic(auto)]
+
 pub mod handles;
 pub mod image;
 pub mod judge;

@@ -1,4 +1,6 @@
 //! Bytes written as pairs of hexadecimal digits.
+#![tactic(auto)]
+
 use std::alloc::{AllocError, Global};
 
 fn nibble(digit: u8) -> Option<u8> {
