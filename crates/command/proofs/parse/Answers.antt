@@ -7,7 +7,7 @@ use Rattle.command.proofs.parse.Goals as goal
 pub loop-word-preserved : goal.loop-word-preserved
 loop-word-preserved c =
     let more = fold_more (λ p w. next_of p (string_bytes w)) Empty c.args.words.now c.loop-word.word-index c.word-item.result (omega arith) in
-    cc (more, c.loop-word.invariant, c.next-progress.ensures, c.as-str.ensures.value, c.word-item.is)
+    cc (more, c.loop-word.invariant, c.next-progress.ensures, c.as_str.ensures.value, c.word-item.is)
 
 pub returns : goal.returns
 returns c = c.finish.ensures ∙ ap finished (c.loop-word.invariant ∙ ap (fold (λ p w. next_of p (string_bytes w)) Empty) (take_all _ c.args.words.now c.loop-word-test.false))

@@ -6,12 +6,12 @@ use Rattle.command.proofs.read_number.Goals as goal
 
 pub loop-digit-preserved : goal.loop-digit-preserved
 loop-digit-preserved c =
-    let more = fold_more digit_more (Some 0) c.as-bytes-digits.result.now c.loop-digit.digit-index 0 (omega arith) in
-    cc (more, c.loop-digit.invariant, c.add-digit-number.ensures)
+    let more = fold_more digit_more (Some 0) c.as_bytes-digits.result.now c.loop-digit.digit-index 0 (omega arith) in
+    cc (more, c.loop-digit.invariant, c.add_digit-number.ensures)
 
 pub returns : goal.returns
 returns c =
     c.loop-digit.invariant
-    ∙ ap (fold digit_more (Some 0)) (take_all _ c.as-bytes-digits.result.now c.loop-digit-test.false)
-    ∙ sym (number_some c.as-bytes-digits.result.now c.if-is-empty.ensures)
-    ∙ ap number_in c.as-bytes-digits.ensures.value
+    ∙ ap (fold digit_more (Some 0)) (take_all _ c.as_bytes-digits.result.now c.loop-digit-test.false)
+    ∙ sym (number_some c.as_bytes-digits.result.now c.if-is_empty.ensures)
+    ∙ ap number_in c.as_bytes-digits.ensures.value

@@ -7,36 +7,36 @@ use Rattle.arena.proofs.Placing.{used_within, kept_within, depth_within}
 use Rattle.arena.proofs.Putting.{room_parts, waiting_kept, turns_now, appended, refused}
 use Rattle.arena.proofs.Draft.append.Goals as goal
 
-pub has-room-requires : goal.has-room-requires
-has-room-requires c = used_within c.requires.stands
+pub has_room-requires : goal.has_room-requires
+has_room-requires c = used_within c.requires.stands
 
-pub offset-bounds-slots-self : goal.offset-bounds-slots-self
-offset-bounds-slots-self c =
-    let l : c.args.self.now.counts.kept < length c.args.slots.now = (room_parts (length c.args.bytes.now) (length c.args.slots.now) c.args.self.now.counts.used c.args.self.now.counts.kept (length c.args.record.now) c.next-number.result (sym c.has-room.ensures ∙ c.if-not-has-room.false)).1 in
+pub offset_bounds-slots-self : goal.offset_bounds-slots-self
+offset_bounds-slots-self c =
+    let l : c.args.self.now.counts.kept < length c.args.slots.now = (room_parts (length c.args.bytes.now) (length c.args.slots.now) c.args.self.now.counts.used c.args.self.now.counts.kept (length c.args.record.now) c.next-number.result (sym c.has_room.ensures ∙ c.if-not-has_room.false)).1 in
     search rules
 
 pub bounds-slots-self : goal.bounds-slots-self
-bounds-slots-self c = (room_parts _ _ _ _ _ _ (sym c.has-room.ensures ∙ c.if-not-has-room.false)).1
+bounds-slots-self c = (room_parts _ _ _ _ _ _ (sym c.has_room.ensures ∙ c.if-not-has_room.false)).1
 
 pub advance-requires : goal.advance-requires
 advance-requires c =
-    let p = room_parts (length c.args.bytes.now) (length c.args.slots.now) c.args.self.now.counts.used c.args.self.now.counts.kept (length c.args.record.now) c.next-number.result (sym c.has-room.ensures ∙ c.if-not-has-room.false) in
+    let p = room_parts (length c.args.bytes.now) (length c.args.slots.now) c.args.self.now.counts.used c.args.self.now.counts.kept (length c.args.record.now) c.next-number.result (sym c.has_room.ensures ∙ c.if-not-has_room.false) in
     let u : c.args.self.now.counts.used + length c.args.record.now ≤ length c.args.bytes.now = p.0 in
     let k : c.args.self.now.counts.kept < length c.args.slots.now = p.1 in
     let q : c.next-number.result < 4294967295 = p.2 in
     let w = waiting_kept c.requires.stands in
-    let n : counted c.args.self.now.counts.lengths (table_in c.args.self.now.counts.opened c.manner-ways.result.table) ≡ c.next-number.result = sym (c.next-number.ensures ∙ ap (counted c.args.self.now.counts.lengths) c.table-in-table.ensures) in
+    let n : counted c.args.self.now.counts.lengths (table_in c.args.self.now.counts.opened c.manner-ways.result.table) ≡ c.next-number.result = sym (c.next-number.ensures ∙ ap (counted c.args.self.now.counts.lengths) c.table_in-table.ensures) in
     record {
       sums = (omega arith, (omega arith, (omega arith, (omega arith, depth_within c.requires.stands))));
       turns = λ t is. turns_now c.requires.stands c.args.record.now c.args.kind c.requires.sound t (ap (λ w. turn_of (top c.args.self.now.counts.brackets) w.motion) (sym c.manner-ways.ensures) ∙ is);
     }
 
-pub returns-then-not-has-room : goal.returns-then-not-has-room
-returns-then-not-has-room c = refused c.requires.stands c.args.record.now c.args.kind c.requires.sound c.table-in-table.result (c.table-in-table.ensures ∙ ap (λ w. table_in c.args.self.now.counts.opened w.table) c.manner-ways.ensures) c.next-number.result c.next-number.ensures (sym c.has-room.ensures ∙ c.if-not-has-room.true)
+pub returns-then-not-has_room : goal.returns-then-not-has_room
+returns-then-not-has_room c = refused c.requires.stands c.args.record.now c.args.kind c.requires.sound c.table_in-table.result (c.table_in-table.ensures ∙ ap (λ w. table_in c.args.self.now.counts.opened w.table) c.manner-ways.ensures) c.next-number.result c.next-number.ensures (sym c.has_room.ensures ∙ c.if-not-has_room.true)
 
 pub returns : goal.returns
 returns c =
     let within = used_within c.requires.stands in
-    let copied = c.copy-from-slice.ensures.after in
-    appended c.requires.stands c.args.record.now c.args.kind c.requires.sound c.table-in-table.result (c.table-in-table.ensures ∙ ap (λ w. table_in c.args.self.now.counts.opened w.table) c.manner-ways.ensures) c.next-number.result c.next-number.ensures (sym c.has-room.ensures ∙ c.if-not-has-room.false) c.advance.new.self (c.advance.ensures ∙ ap (advanced c.args.self.now.counts (length c.args.record.now)) c.manner-ways.ensures) _
-    (take-put_mid _ _ c.args.bytes.now c.copy-from-slice.new.self _ (ap (λ b. c.args.self.now.counts.used + length b) (sym copied)) within ∙ ap (λ b. take c.args.self.now.counts.used c.args.bytes.now ++ b) copied) _ c.of.ensures
+    let copied = c.copy_from_slice.ensures.after in
+    appended c.requires.stands c.args.record.now c.args.kind c.requires.sound c.table_in-table.result (c.table_in-table.ensures ∙ ap (λ w. table_in c.args.self.now.counts.opened w.table) c.manner-ways.ensures) c.next-number.result c.next-number.ensures (sym c.has_room.ensures ∙ c.if-not-has_room.false) c.advance.new.self (c.advance.ensures ∙ ap (advanced c.args.self.now.counts (length c.args.record.now)) c.manner-ways.ensures) _
+    (take-put_mid _ _ c.args.bytes.now c.copy_from_slice.new.self _ (ap (λ b. c.args.self.now.counts.used + length b) (sym copied)) within ∙ ap (λ b. take c.args.self.now.counts.used c.args.bytes.now ++ b) copied) _ c.of.ensures

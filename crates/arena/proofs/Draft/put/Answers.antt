@@ -12,35 +12,35 @@ use Rattle.arena.proofs.Draft.put.Goals.{in_Types+in_default_find, in_default}
 pub admit-requires : goal.admit-requires
 admit-requires c = depth_within c.requires
 
-pub returns-in-err-kind : goal.returns-in-err-kind
-returns-in-err-kind c =
-    let p = err_from_is_err_and c.from-residual.result c.from-residual.ensures.1 in
+pub returns-in_err-kind : goal.returns-in_err-kind
+returns-in_err-kind c =
+    let p = err_from_is_err_and c.from_residual.result c.from_residual.ensures.1 in
     record {
-      kept = rw (p.1, p.2) (kept_nothing c.requires _ (put_refused _ _ _ _ _ (admitted_so c.requires c.args.record.now _ c.in-err-kind.ensures)));
+      kept = rw (p.1, p.2) (kept_nothing c.requires _ (put_refused _ _ _ _ _ (admitted_so c.requires c.args.record.now _ c.in_err-kind.ensures)));
       free = free_now c.requires;
       lawful = lawful _ c.requires.accepted;
     }
 
 pub find-requires : goal.find-requires
-find-requires c = record { stands = c.requires; sound = ap is_ok (admits (state (read_off c.args.self.now.counts c.args.bytes.now c.args.slots.now)) c.args.record.now c.in-ok-kind.kind (admitted_so c.requires c.args.record.now (Ok c.in-ok-kind.kind) c.in-ok-kind.ensures)).kind_is }
+find-requires c = record { stands = c.requires; sound = ap is_ok (admits (state (read_off c.args.self.now.counts c.args.bytes.now c.args.slots.now)) c.args.record.now c.in_ok-kind.kind (admitted_so c.requires c.args.record.now (Ok c.in_ok-kind.kind) c.in_ok-kind.ensures)).kind_is }
 
 pub returns-in-Some : goal.returns-in-Some
 returns-in-Some c =
-    let kept = kept_front c.requires _ _ c.free.new.self.counts c.of.ensures c.free.ensures (put_type _ _ _ _ c.in-ok-kind.kind (admitted_so c.requires c.args.record.now (Ok c.in-ok-kind.kind) c.in-ok-kind.ensures) (ap (λ w. w.table) (sym c.manner.ensures) ∙ c.in-Types.is) _ (sym c.find.ensures ∙ c.in-Some.is)) in
+    let kept = kept_front c.requires _ _ c.free.new.self.counts c.of.ensures c.free.ensures (put_type _ _ _ _ c.in_ok-kind.kind (admitted_so c.requires c.args.record.now (Ok c.in_ok-kind.kind) c.in_ok-kind.ensures) (ap (λ w. w.table) (sym c.manner.ensures) ∙ c.in-Types.is) _ (sym c.find.ensures ∙ c.in-Some.is)) in
     record { kept = kept; free = free_now kept.stands; lawful = lawful _ kept.stands.accepted }
 
 pub append-requires : goal.append-requires
-append-requires c = record { stands = c.requires; sound = admitted_so c.requires c.args.record.now (Ok c.in-ok-kind.kind) c.in-ok-kind.ensures }
+append-requires c = record { stands = c.requires; sound = admitted_so c.requires c.args.record.now (Ok c.in_ok-kind.kind) c.in_ok-kind.ensures }
 
 pub returns : goal.returns
 returns c =
-    let admitted = (admitted_so c.requires c.args.record.now (Ok c.in-ok-kind.kind) c.in-ok-kind.ensures) in
+    let admitted = (admitted_so c.requires c.args.record.now (Ok c.in_ok-kind.kind) c.in_ok-kind.ensures) in
     let kept = c.append.ensures in
     record {
       free = free_now kept.stands;
       lawful = lawful _ kept.stands.accepted;
       kept = kept_like (elim c.match-manner.branch [
-        | in_Types+in_default_find w ↦ put_new _ _ _ _ c.in-ok-kind.kind admitted (ap (λ w. w.table) (sym c.manner.ensures) ∙ w.in-Types.is) (sym w.find.ensures ∙ w.in-default-find.is)
-        | in_default w ↦ put_other _ _ _ _ c.in-ok-kind.kind admitted (λ e. w.in_default.not-Types (ap (λ w. w.table) c.manner.ensures ∙ e))
+        | in_Types+in_default_find w ↦ put_new _ _ _ _ c.in_ok-kind.kind admitted (ap (λ w. w.table) (sym c.manner.ensures) ∙ w.in-Types.is) (sym w.find.ensures ∙ w.in_default-find.is)
+        | in_default w ↦ put_other _ _ _ _ c.in_ok-kind.kind admitted (λ e. w.in_default.not-Types (ap (λ w. w.table) c.manner.ensures ∙ e))
       ]) kept;
     }

@@ -10,13 +10,13 @@ use Rattle.items.proofs.entry.entry_at.Goals as goal
 pub unreachable-requires : goal.unreachable-requires
 unreachable-requires c =
     let s = slot_there c.requires.views c.args.place c.requires.within in
-    let n = c.in-default.ensures in
+    let n = c.in_default.ensures in
     let z : ◌≡◌ {A = ℕ} 0 1 = cc in omega arith
 
-pub unreachable-requires-in-default-record : goal.unreachable-requires-in-default-record
-unreachable-requires-in-default-record c =
+pub unreachable-requires-in_default-record : goal.unreachable-requires-in_default-record
+unreachable-requires-in_default-record c =
     let s = slice_get-get_or (viewed c.args.view) c.args.place [] c.requires.within in
-    let n = c.in-default-record.ensures in
+    let n = c.in_default-record.ensures in
     let z : ◌≡◌ {A = ℕ} 0 1 = cc in omega arith
 
 pub returns : goal.returns

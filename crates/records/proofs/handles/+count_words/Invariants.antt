@@ -1,5 +1,5 @@
 use Rattle.std.proofs.Common.{length}
 use Rattle.records.proofs.handles.+count_words.Given as goal
 
-abbrev pub decreases-count-words : goal.decreases-count-words
-decreases-count-words l = length l.words.now
+abbrev pub decreases-count_words : goal.decreases-count_words
+decreases-count_words l = length l.words.now

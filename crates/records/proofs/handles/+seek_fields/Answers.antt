@@ -3,8 +3,8 @@ use Rattle.records.proofs.Seeking.{fields_empty, fields_found, fields_past}
 use Rattle.records.proofs.Steps.{size_left}
 use Rattle.records.proofs.handles.+seek_fields.Goals as goal
 
-pub seek-fields-requires : goal.seek-fields-requires
-seek-fields-requires t c =
+pub seek_fields-requires : goal.seek_fields-requires
+seek_fields-requires t c =
     (search rules, size_left c.args.fields.now _ c.args.bytes.now (search rules) c.width.ensures c.requires)
 
 pub returns-in-empty : goal.returns-in-empty
@@ -15,4 +15,4 @@ returns-in-Found t c = fields_found c.args.fields.now _ c.args.bytes.now _ _ (se
 
 pub returns-in-Past : goal.returns-in-Past
 returns-in-Past t c =
-    c.seek-fields.ensures ∙ fields_past c.args.fields.now _ c.args.bytes.now _ _ (search rules) c.width.ensures c.in-Past.ensures
+    c.seek_fields.ensures ∙ fields_past c.args.fields.now _ c.args.bytes.now _ _ (search rules) c.width.ensures c.in-Past.ensures

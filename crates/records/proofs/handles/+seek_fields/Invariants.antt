@@ -1,5 +1,5 @@
 use Rattle.std.proofs.Common.{length}
 use Rattle.records.proofs.handles.+seek_fields.Given as goal
 
-abbrev pub decreases-seek-fields : goal.decreases-seek-fields
-decreases-seek-fields l = length l.fields.now
+abbrev pub decreases-seek_fields : goal.decreases-seek_fields
+decreases-seek_fields l = length l.fields.now

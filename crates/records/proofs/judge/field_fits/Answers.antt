@@ -6,4 +6,4 @@ pub returns-in-Some : goal.returns-in-Some
 returns-in-Some c =
     let is = c.in-Case-len1-up.is-0 in
     let words = c.in-Some.ensures.row in
-    simp (is, words) (simp rest_is at c.words-fit.ensures)
+    simp (is, words) (simp rest_is at c.words_fit.ensures)

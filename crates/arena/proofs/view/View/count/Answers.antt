@@ -10,25 +10,25 @@ use Rattle.arena.proofs.view.View.count.Goals.{then_is_item, else_is_item}
 adds : (r x y : Bool) → r ≡ x → r ≡ y → cond {A = ℕ} x 1 0 ≡ cond {A = ℕ} y 1 0
 adds r x y e f = ap (λ b. cond {A = ℕ} b 1 0) (sym e ∙ f)
 
-pub overflow-add-count : goal.overflow-add-count
-overflow-add-count c = let k = kept_within c.requires in let b = c.loop-place.invariant.1 in search rules
+pub overflow_add-count : goal.overflow_add-count
+overflow_add-count c = let k = kept_within c.requires in let b = c.loop-place.invariant.1 in search rules
 
 pub loop-place-init : goal.loop-place-init
 loop-place-init c = (omega arith, omega arith)
 
 pub loop-place-preserved : goal.loop-place-preserved
 loop-place-preserved c =
-    let more = tallied_more c.requires c.loop-place.place c.args.home c.table-in-wanted.result c.loop-place.inside c.loop-place-test.true c.slot-at-slot.result c.slot-at-slot.ensures c.is-inside-inside.result c.is-inside-inside.ensures in
+    let more = tallied_more c.requires c.loop-place.place c.args.home c.table_in-wanted.result c.loop-place.inside c.loop-place-test.true c.slot_at-slot.result c.slot_at-slot.ensures c.is_inside-inside.result c.is_inside-inside.ensures in
     let before = c.loop-place.invariant.0 in
     let within = c.loop-place.invariant.1 in
-    elim c.if-is-item.branch [
-      | then_is_item w ↦ (let one = adds c.is-item.result _ true c.is-item.ensures w.if-is-item.true in let is = w.count-is in omega arith, let is = w.count-is in omega arith)
-      | else_is_item w ↦ (let none = adds c.is-item.result _ false c.is-item.ensures w.if-is-item.false in let is = w.count-is in omega arith, let is = w.count-is in omega arith)
+    elim c.if-is_item.branch [
+      | then_is_item w ↦ (let one = adds c.is_item.result _ true c.is_item.ensures w.if-is_item.true in let is = w.count-is in omega arith, let is = w.count-is in omega arith)
+      | else_is_item w ↦ (let none = adds c.is_item.result _ false c.is_item.ensures w.if-is_item.false in let is = w.count-is in omega arith, let is = w.count-is in omega arith)
     ]
 
 pub returns : goal.returns
 returns c =
-    let none = tallied_end c.requires c.loop-place.place c.args.home c.table-in-wanted.result c.loop-place.inside c.loop-place-test.false in
+    let none = tallied_end c.requires c.loop-place.place c.args.home c.table_in-wanted.result c.loop-place.inside c.loop-place-test.false in
     let all = c.loop-place.invariant.0 in
-    let is = ap (λ w. tallied c.args.home w false (layout (viewed c.args.self))) c.table-in-wanted.ensures ∙ tallied_is c.args.home c.args.table (viewed c.args.self) c.requires.accepted in
+    let is = ap (λ w. tallied c.args.home w false (layout (viewed c.args.self))) c.table_in-wanted.ensures ∙ tallied_is c.args.home c.args.table (viewed c.args.self) c.requires.accepted in
     omega arith

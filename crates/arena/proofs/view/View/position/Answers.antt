@@ -8,21 +8,21 @@ use Rattle.arena.proofs.view.View.position.Goals as goal
 pub loop-place-init : goal.loop-place-init
 loop-place-init c = refl
 
-pub returns-then-is-named : goal.returns-then-is-named
-returns-then-is-named c =
-    sym (sought_more c.requires c.loop-place.place c.args.home c.table-in-wanted.result c.loop-place.inside c.args.number c.loop-place-test.true c.slot-at-slot.result c.slot-at-slot.ensures c.is-inside-inside.result c.is-inside-inside.ensures ∙ cond-true _ _ _ (sym c.is-named.ensures ∙ c.if-is-named.true))
+pub returns-then-is_named : goal.returns-then-is_named
+returns-then-is_named c =
+    sym (sought_more c.requires c.loop-place.place c.args.home c.table_in-wanted.result c.loop-place.inside c.args.number c.loop-place-test.true c.slot_at-slot.result c.slot_at-slot.ensures c.is_inside-inside.result c.is_inside-inside.ensures ∙ cond-true _ _ _ (sym c.is_named.ensures ∙ c.if-is_named.true))
     ∙ c.loop-place.invariant
-    ∙ ap (λ w. sought c.args.home w c.args.number false 0 (layout (viewed c.args.self))) c.table-in-wanted.ensures
+    ∙ ap (λ w. sought c.args.home w c.args.number false 0 (layout (viewed c.args.self))) c.table_in-wanted.ensures
     ∙ sought_is c.args.home c.args.table (viewed c.args.self) c.requires.accepted c.args.number
 
 pub loop-place-preserved : goal.loop-place-preserved
 loop-place-preserved c =
-    sym (sought_more c.requires c.loop-place.place c.args.home c.table-in-wanted.result c.loop-place.inside c.args.number c.loop-place-test.true c.slot-at-slot.result c.slot-at-slot.ensures c.is-inside-inside.result c.is-inside-inside.ensures ∙ cond-false _ _ _ (sym c.is-named.ensures ∙ c.if-is-named.false))
+    sym (sought_more c.requires c.loop-place.place c.args.home c.table_in-wanted.result c.loop-place.inside c.args.number c.loop-place-test.true c.slot_at-slot.result c.slot_at-slot.ensures c.is_inside-inside.result c.is_inside-inside.ensures ∙ cond-false _ _ _ (sym c.is_named.ensures ∙ c.if-is_named.false))
     ∙ c.loop-place.invariant
 
 pub returns : goal.returns
 returns c =
-    sym (sought_end c.requires c.loop-place.place c.args.home c.table-in-wanted.result c.loop-place.inside c.args.number c.loop-place-test.false)
+    sym (sought_end c.requires c.loop-place.place c.args.home c.table_in-wanted.result c.loop-place.inside c.args.number c.loop-place-test.false)
     ∙ c.loop-place.invariant
-    ∙ ap (λ w. sought c.args.home w c.args.number false 0 (layout (viewed c.args.self))) c.table-in-wanted.ensures
+    ∙ ap (λ w. sought c.args.home w c.args.number false 0 (layout (viewed c.args.self))) c.table_in-wanted.ensures
     ∙ sought_is c.args.home c.args.table (viewed c.args.self) c.requires.accepted c.args.number

@@ -4,18 +4,18 @@ use Rattle.owned.proofs.Holding.{whole, scattered, more_bytes, more_slots}
 use Rattle.owned.proofs.Growing.{not_both}
 use Rattle.owned.proofs.owned.OwnedDraft.make_room.Goals as goal
 
-pub invariant-of-self : goal.invariant-of-self
-invariant-of-self c = scattered (stands_now (more_bytes (whole c.args.self.now) _ c.grow.ensures.added))
+pub invariant_of-self : goal.invariant_of-self
+invariant_of-self c = scattered (stands_now (more_bytes (whole c.args.self.now) _ c.grow.ensures.added))
 
-pub returns-in-err-grow : goal.returns-in-err-grow
-returns-in-err-grow c = record {
+pub returns-in_err-grow : goal.returns-in_err-grow
+returns-in_err-grow c = record {
   keeps = records_are (more_bytes (whole c.args.self.now) _ c.grow.ensures.added);
-  bytes = λ ok. absurd (not_both c.from-residual.result ok c.from-residual.ensures.0);
-  slots = λ ok. absurd (not_both c.from-residual.result ok c.from-residual.ensures.0);
+  bytes = λ ok. absurd (not_both c.from_residual.result ok c.from_residual.ensures.0);
+  slots = λ ok. absurd (not_both c.from_residual.result ok c.from_residual.ensures.0);
 }
 
-pub overflow-add-counts : goal.overflow-add-counts
-overflow-add-counts c =
+pub overflow_add-counts : goal.overflow_add-counts
+overflow_add-counts c =
     let w = c.args.self.now in
     let k = kept_within (whole w) in
     let e = ap (λ x. x.kept) c.counts-counts.ensures.value in
@@ -23,8 +23,8 @@ overflow-add-counts c =
     let s = w.slots.small in
     omega arith
 
-pub invariant-of-self-2 : goal.invariant-of-self-2
-invariant-of-self-2 c = scattered (stands_now (more_slots (more_bytes (whole c.args.self.now) _ c.grow.ensures.added) _ c.grow-2.ensures.added))
+pub invariant_of-self-2 : goal.invariant_of-self-2
+invariant_of-self-2 c = scattered (stands_now (more_slots (more_bytes (whole c.args.self.now) _ c.grow.ensures.added) _ c.grow-2.ensures.added))
 
 pub returns : goal.returns
 returns c = record {
@@ -32,7 +32,7 @@ returns c = record {
   bytes = λ ok.
       let u = used_is (whole c.args.self.now) in
       let e = ap (λ x. x.used) c.counts-counts.ensures.value in
-      let large = c.grow.ensures.enough (ap is_ok c.in-ok-grow.was) in
+      let large = c.grow.ensures.enough (ap is_ok c.in_ok-grow.was) in
       let l = c.grow.new.items.ok in
       let s = c.grow.new.items.small in
       omega arith;

@@ -3,6 +3,6 @@ use Rattle.owned.proofs.owned.OwnedDraft.parts.Goals as goal
 
 pub returns : goal.returns
 returns c =
-    let b = c.as-slice.ensures.value in
-    let s = c.as-slice-2.ensures.value in
+    let b = c.as_slice.ensures.value in
+    let s = c.as_slice-2.ensures.value in
     record { stands = simp (b, s) (whole c.args.self.now); keeps = simp (b, s) }

@@ -7,31 +7,31 @@ use Rattle.owned.proofs.owned.OwnedDraft.put.Goals as goal
 
 pub put-requires : goal.put-requires
 put-requires c =
-    let b = c.as-mut-slice.ensures.value in
-    let s = c.as-mut-slice-2.ensures.value in
-    simp (b, s) (whole c.make-room.new.self)
+    let b = c.as_mut_slice.ensures.value in
+    let s = c.as_mut_slice-2.ensures.value in
+    simp (b, s) (whole c.make_room.new.self)
 
-pub invariant-of-self : goal.invariant-of-self
-invariant-of-self c =
-    let w = c.make-room.new.self in
-    let b = refilled_is w.bytes c.as-mut-slice.result.now c.put.new.bytes c.as-mut-slice.ensures.value c.put.auto.bytes in
-    let s = refilled_is w.slots c.as-mut-slice-2.result.now c.put.new.slots c.as-mut-slice-2.ensures.value c.put.auto.slots in
+pub invariant_of-self : goal.invariant_of-self
+invariant_of-self c =
+    let w = c.make_room.new.self in
+    let b = refilled_is w.bytes c.as_mut_slice.result.now c.put.new.bytes c.as_mut_slice.ensures.value c.put.auto.bytes in
+    let s = refilled_is w.slots c.as_mut_slice-2.result.now c.put.new.slots c.as_mut_slice-2.ensures.value c.put.auto.slots in
     simp (b, s) (scattered c.put.ensures.kept.stands)
 
-pub returns-in-err-answer : goal.returns-in-err-answer
-returns-in-err-answer c =
-    let w = c.make-room.new.self in
-    let b = refilled_is w.bytes c.as-mut-slice.result.now c.put.new.bytes c.as-mut-slice.ensures.value c.put.auto.bytes in
-    let s = refilled_is w.slots c.as-mut-slice-2.result.now c.put.new.slots c.as-mut-slice-2.ensures.value c.put.auto.slots in
-    let ok : is_ok c.make-room.result ≡ true = ap is_ok c.in-ok-make-room.was in
-    let p = put_made w (kept_in c.args.self.now) c.args.record.now c.as-mut-slice.ensures.value c.as-mut-slice-2.ensures.value c.make-room.ensures.keeps (c.make-room.ensures.bytes ok) (c.make-room.ensures.slots ok) c.put.ensures.kept in
-    refused_so c.from-residual-in-err-answer.result c.in-err-answer.field-0.0 (put_all (kept_in c.args.self.now) c.args.record.now) (kept_in c.args.self.now) _ c.from-residual-in-err-answer.ensures.1 (p.0 ∙ c.in-err-answer.was) (simp (b, s) p.1)
+pub returns-in_err-answer : goal.returns-in_err-answer
+returns-in_err-answer c =
+    let w = c.make_room.new.self in
+    let b = refilled_is w.bytes c.as_mut_slice.result.now c.put.new.bytes c.as_mut_slice.ensures.value c.put.auto.bytes in
+    let s = refilled_is w.slots c.as_mut_slice-2.result.now c.put.new.slots c.as_mut_slice-2.ensures.value c.put.auto.slots in
+    let ok : is_ok c.make_room.result ≡ true = ap is_ok c.in_ok-make_room.was in
+    let p = put_made w (kept_in c.args.self.now) c.args.record.now c.as_mut_slice.ensures.value c.as_mut_slice-2.ensures.value c.make_room.ensures.keeps (c.make_room.ensures.bytes ok) (c.make_room.ensures.slots ok) c.put.ensures.kept in
+    refused_so c.from_residual-in_err-answer.result c.in_err-answer.field-0.0 (put_all (kept_in c.args.self.now) c.args.record.now) (kept_in c.args.self.now) _ c.from_residual-in_err-answer.ensures.1 (p.0 ∙ c.in_err-answer.was) (simp (b, s) p.1)
 
 pub returns : goal.returns
 returns c =
-    let w = c.make-room.new.self in
-    let b = refilled_is w.bytes c.as-mut-slice.result.now c.put.new.bytes c.as-mut-slice.ensures.value c.put.auto.bytes in
-    let s = refilled_is w.slots c.as-mut-slice-2.result.now c.put.new.slots c.as-mut-slice-2.ensures.value c.put.auto.slots in
-    let ok : is_ok c.make-room.result ≡ true = ap is_ok c.in-ok-make-room.was in
-    let p = put_made w (kept_in c.args.self.now) c.args.record.now c.as-mut-slice.ensures.value c.as-mut-slice-2.ensures.value c.make-room.ensures.keeps (c.make-room.ensures.bytes ok) (c.make-room.ensures.slots ok) c.put.ensures.kept in
-    (p.0 ∙ c.in-ok-answer.was, simp (b, s) p.1)
+    let w = c.make_room.new.self in
+    let b = refilled_is w.bytes c.as_mut_slice.result.now c.put.new.bytes c.as_mut_slice.ensures.value c.put.auto.bytes in
+    let s = refilled_is w.slots c.as_mut_slice-2.result.now c.put.new.slots c.as_mut_slice-2.ensures.value c.put.auto.slots in
+    let ok : is_ok c.make_room.result ≡ true = ap is_ok c.in_ok-make_room.was in
+    let p = put_made w (kept_in c.args.self.now) c.args.record.now c.as_mut_slice.ensures.value c.as_mut_slice-2.ensures.value c.make_room.ensures.keeps (c.make_room.ensures.bytes ok) (c.make_room.ensures.slots ok) c.put.ensures.kept in
+    (p.0 ∙ c.in_ok-answer.was, simp (b, s) p.1)
