@@ -7,7 +7,7 @@ use Rattle.laws.proofs.Lawful.{lawful}
 use Rattle.arena.proofs.Placing.{depth_within, free_now}
 use Rattle.arena.proofs.Putting.{admitted_so, put_refused, put_type, put_new, put_other, kept_nothing, kept_front, kept_like}
 use Rattle.arena.proofs.Draft.put.Goals as goal
-use Rattle.arena.proofs.Draft.put.Goals.{in_Types+in_default_find, in_default}
+use Rattle.arena.proofs.Draft.put.Goals.{in-Types+in_default-find, in_default}
 
 pub admit-requires : goal.admit-requires
 admit-requires c = depth_within c.requires
@@ -40,7 +40,7 @@ returns c =
       free = free_now kept.stands;
       lawful = lawful _ kept.stands.accepted;
       kept = kept_like (elim c.match-manner.branch [
-        | in_Types+in_default_find w ↦ put_new _ _ _ _ c.in_ok-kind.kind admitted (ap (λ w. w.table) (sym c.manner.ensures) ∙ w.in-Types.is) (sym w.find.ensures ∙ w.in_default-find.is)
+        | in-Types+in_default-find w ↦ put_new _ _ _ _ c.in_ok-kind.kind admitted (ap (λ w. w.table) (sym c.manner.ensures) ∙ w.in-Types.is) (sym w.find.ensures ∙ w.in_default-find.is)
         | in_default w ↦ put_other _ _ _ _ c.in_ok-kind.kind admitted (λ e. w.in_default.not-Types (ap (λ w. w.table) c.manner.ensures ∙ e))
       ]) kept;
     }

@@ -4,7 +4,7 @@ use Rattle.arena.specs.Viewing.{viewed, tallied}
 use Rattle.arena.proofs.Placing.{kept_within}
 use Rattle.arena.proofs.Scanning.{tallied_is, tallied_more, tallied_end}
 use Rattle.arena.proofs.view.View.count.Goals as goal
-use Rattle.arena.proofs.view.View.count.Goals.{then_is_item, else_is_item}
+use Rattle.arena.proofs.view.View.count.Goals.{then-is_item, else-is_item}
 
 -- what a slot adds to the count
 adds : (r x y : Bool) → r ≡ x → r ≡ y → cond {A = ℕ} x 1 0 ≡ cond {A = ℕ} y 1 0
@@ -22,8 +22,8 @@ loop-place-preserved c =
     let before = c.loop-place.invariant.0 in
     let within = c.loop-place.invariant.1 in
     elim c.if-is_item.branch [
-      | then_is_item w ↦ (let one = adds c.is_item.result _ true c.is_item.ensures w.if-is_item.true in let is = w.count-is in omega arith, let is = w.count-is in omega arith)
-      | else_is_item w ↦ (let none = adds c.is_item.result _ false c.is_item.ensures w.if-is_item.false in let is = w.count-is in omega arith, let is = w.count-is in omega arith)
+      | then-is_item w ↦ (let one = adds c.is_item.result _ true c.is_item.ensures w.if-is_item.true in let is = w.count-is in omega arith, let is = w.count-is in omega arith)
+      | else-is_item w ↦ (let none = adds c.is_item.result _ false c.is_item.ensures w.if-is_item.false in let is = w.count-is in omega arith, let is = w.count-is in omega arith)
     ]
 
 pub returns : goal.returns
