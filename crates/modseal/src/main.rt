@@ -1,7 +1,7 @@
 //! Reads images of shader modules, and reports their records.
 #![tactic(auto)]
 
-mod names;
+mod named;
 mod report;
 mod show;
 
@@ -11,6 +11,7 @@ use command::{Misuse, Options, Request, Word, parse};
 use records::image::Records;
 use std::alloc::Global;
 use std::io::{BufWriter, Read, Write};
+use std::process::ExitCode;
 use std::{env, fs, io};
 
 const HELP: &str = "modseal: reads images of shader modules
@@ -29,10 +30,6 @@ number names
 --keep-going  go on behind a refused record
 --bytes N     lend the draft N bytes, and
 --slots N     N slots: as many as the image needs where this is not said";
-
-/// What went wrong has been said on standard error.
-#[derive(Drop)]
-struct Failed;
 
 fn read_input(rt: &HostRuntime) -> io::Result<Vec<u8>> {
     let mut image = Vec::new(rt.alloc());
@@ -164,13 +161,13 @@ fn run(rt: &HostRuntime) -> io::Result<bool> {
     }
 }
 
-fn main(rt: HostRuntime) -> Result<(), Failed> {
+fn main(rt: HostRuntime) -> ExitCode {
     match run(&rt) {
-        Ok(true) => Ok(()),
-        Ok(false) => Err(Failed),
+        Ok(true) => ExitCode::SUCCESS,
+        Ok(false) => ExitCode::FAILURE,
         Err(error) => {
             let _ = eprintln!(rt; "modseal: {error}");
-            Err(Failed)
+            ExitCode::FAILURE
         }
     }
 }

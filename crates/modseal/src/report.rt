@@ -3,7 +3,7 @@ ghost use Rattle.std.specs.Prelude.{length};
 ghost use Rattle.arena.specs.Memory.{Stands};
 ghost use Rattle.std.specs.Iterator.{at_most};
 
-use crate::names::show_names;
+use crate::named::show_names;
 use crate::show::{show_counts, show_fields};
 use arena::Draft;
 use arena::answer::Answer;

@@ -32,9 +32,9 @@ gathered {m = m} counted held placed sound = record { counts_are = ap (λ d. d.c
 pub whole : (w : OwnedDraft) → Stands w.draft w.bytes.items w.slots.items
 whole w = gathered w.counted w.held w.placed w.sound
 
--- the ghost fields apart, nested as their need has them
-pub scattered : {d : Draft} {bytes : List ℕ} {slots : List Slot} {m : List Record} → Holds d.counts bytes slots m → (d ≡ draft_of m) × ((bytes_in d bytes ≡ image m) × ((slots_in d slots ≡ layout m) × ((accepts start m ≡ true) × Unit {0})))
-scattered {d} {bytes} {slots} {m} h = (ap (λ c. record { counts = c }) h.counts_are, (h.bytes_are, (h.slots_are, (accepts_is start m h.accepted, tt))))
+-- the ghost fields apart
+pub scattered : {d : Draft} {bytes : List ℕ} {slots : List Slot} {m : List Record} → Holds d.counts bytes slots m → (d ≡ draft_of m) × (bytes_in d bytes ≡ image m) × (slots_in d slots ≡ layout m) × (accepts start m ≡ true)
+scattered {d} {bytes} {slots} {m} h = (ap (λ c. record { counts = c }) h.counts_are, h.bytes_are, h.slots_are, accepts_is start m h.accepted)
 
 module _ {c : Counts} {bytes : List ℕ} {slots : List Slot} {m : List Record} (h : Holds c bytes slots m) where
   -- bytes that are added behind are free

@@ -5,7 +5,9 @@ use Rattle.owned.proofs.Growing.{not_both}
 use Rattle.owned.proofs.owned.OwnedDraft.make_room.Goals as goal
 
 pub invariant_of-self : goal.invariant_of-self
-invariant_of-self c = scattered (stands_now (more_bytes (whole c.args.self.now) _ c.grow.ensures.added))
+invariant_of-self c =
+    let p = scattered (stands_now (more_bytes (whole c.args.self.now) _ c.grow.ensures.added)) in
+    record { counted = p.0; held = p.1; placed = p.2; sound = p.3 }
 
 pub returns-in_err-grow : goal.returns-in_err-grow
 returns-in_err-grow c = record {
@@ -24,7 +26,9 @@ overflow_add-counts c =
     omega arith
 
 pub invariant_of-self-2 : goal.invariant_of-self-2
-invariant_of-self-2 c = scattered (stands_now (more_slots (more_bytes (whole c.args.self.now) _ c.grow.ensures.added) _ c.grow-2.ensures.added))
+invariant_of-self-2 c =
+    let p = scattered (stands_now (more_slots (more_bytes (whole c.args.self.now) _ c.grow.ensures.added) _ c.grow-2.ensures.added)) in
+    record { counted = p.0; held = p.1; placed = p.2; sound = p.3 }
 
 pub returns : goal.returns
 returns c = record {

@@ -16,7 +16,8 @@ invariant_of-self c =
     let w = c.make_room.new.self in
     let b = refilled_is w.bytes c.as_mut_slice.result.now c.put.new.bytes c.as_mut_slice.ensures.value c.put.auto.bytes in
     let s = refilled_is w.slots c.as_mut_slice-2.result.now c.put.new.slots c.as_mut_slice-2.ensures.value c.put.auto.slots in
-    simp (b, s) (scattered c.put.ensures.kept.stands)
+    let p = scattered c.put.ensures.kept.stands in
+    simp (b, s) (record { counted = p.0; held = p.1; placed = p.2; sound = p.3 })
 
 pub returns-in_err-answer : goal.returns-in_err-answer
 returns-in_err-answer c =
