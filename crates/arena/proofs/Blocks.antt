@@ -1,6 +1,6 @@
 -- An item is one block of bytes: two items are equal exactly when their blocks are.
 use Rattle.std.proofs.Common.{◌≡◌, ℕ, suc, ◌+◌, ◌<◌, ◌≤◌, Bool, true, false, cond, ◌&&◌, eqb, List, [], ◌∷◌, ◌++◌, length, take, drop, is_ok, Some, None, Ok, Err, Decides, Option, Result, sym, refl, ap, ◌∙◌, subst, append_assoc, append-nil, arith, length-append}
-use Rattle.std.specs.List.{AllByRecursion as All}
+use Rattle.std.specs.List.{AllByRecursion}
 use Rattle.std.specs.Str.{bytes_eq}
 use Rattle.std.proofs.lemmas.List.{take_at, drop_at, take-append-drop, same_from_push}
 use Rattle.std.proofs.lemmas.Slice.Eq.{bytes_eq-Decides}
@@ -49,7 +49,7 @@ sound_some [] e = let z : ◌≡◌ {A = ℕ} 0 1 = cc in absurd (omega arith)
 sound_some (k ∷ x) e = omega arith
 
 -- a list of read-off is known by its bytes
-pub image_same : (m n : List Record) → All Sound m → All Sound n → image m ≡ image n → m ≡ n
+pub image_same : (m n : List Record) → AllByRecursion Sound m → AllByRecursion Sound n → image m ≡ image n → m ≡ n
 image_same [] [] a b e = refl
 image_same [] (y ∷ n) a b e = let l = ap length e ∙ length-append y (image n) in let p = sound_some y b.0 in absurd (omega arith)
 image_same (x ∷ m) [] a b e = let l = sym (ap length e) ∙ length-append x (image m) in let p = sound_some x a.0 in absurd (omega arith)
@@ -60,15 +60,15 @@ image_same (x ∷ m) (y ∷ n) a b e =
     let others : m ≡ n = image_same m n a.1 b.1 rest in
     cc
 
-pub all_sound : (s : State) (m : List Record) → Accepted s m → All Sound m
+pub all_sound : (s : State) (m : List Record) → Accepted s m → AllByRecursion Sound m
 all_sound s [] a = tt
 all_sound s (r ∷ m) a = (ap is_ok (admitted_kind s r a.0).1.kind_is, all_sound (step s r) m a.1)
 
-pub all_front : (m n : List Record) → All Sound (m ++ n) → All Sound m
+pub all_front : (m n : List Record) → AllByRecursion Sound (m ++ n) → AllByRecursion Sound m
 all_front [] n a = tt
 all_front (x ∷ m) n a = (a.0, all_front m n a.1)
 
-pub all_back : (m n : List Record) → All Sound (m ++ n) → All Sound n
+pub all_back : (m n : List Record) → AllByRecursion Sound (m ++ n) → AllByRecursion Sound n
 all_back [] n a = a
 all_back (x ∷ m) n a = all_back m n a.1
 
@@ -99,7 +99,7 @@ equal_from i j e f = and_from (bytes_eq i.bytes j.bytes) (same_records i.taken j
 abbrev pub block_of : Item → List ℕ
 block_of i = image (i.taken ++ i.bytes ∷ [])
 
-pub blocks_decide : (i j : Item) → All Sound (i.taken ++ i.bytes ∷ []) → All Sound (j.taken ++ j.bytes ∷ []) → Decides (equal_items i j) (block_of i ≡ block_of j)
+pub blocks_decide : (i j : Item) → AllByRecursion Sound (i.taken ++ i.bytes ∷ []) → AllByRecursion Sound (j.taken ++ j.bytes ∷ []) → Decides (equal_items i j) (block_of i ≡ block_of j)
 blocks_decide i j a b = (
   (λ e. let p = equal_parts i j e in ap (λ t. image (t ++ i.bytes ∷ [])) p.1 ∙ ap (λ r. image (j.taken ++ r ∷ [])) p.0),
   (λ e. let p = same_from_push i.taken j.taken i.bytes j.bytes (image_same (i.taken ++ i.bytes ∷ []) (j.taken ++ j.bytes ∷ []) a b e) in equal_from i j p.1 p.0),

@@ -1,6 +1,6 @@
 -- The search for a kept type that equals another.
 use Rattle.std.proofs.Common.{◌≡◌, ℕ, zero, suc, ◌+◌, ◌-◌, ◌<◌, ◌≤◌, Bool, true, false, cond, List, [], ◌∷◌, ◌++◌, length, get_or, take, drop, is_ok, Some, None, Ok, Err, Decides, fold, Option, sym, refl, ap, ◌∙◌, subst, ⊎_elim, append_assoc, append-nil, arith, length-append}
-use Rattle.std.specs.List.{between, AllByRecursion as All}
+use Rattle.std.specs.List.{between, AllByRecursion}
 use Rattle.std.proofs.lemmas.List.{at_drop_more, at_drop_all, take-append-drop, take_more}
 use Rattle.std.proofs.lemmas.List.Sums.{fold_more}
 use Rattle.std.proofs.lemmas.Bool.{cond-true, cond-false, cases_Bool}
@@ -263,8 +263,8 @@ module _ (m : List Record) (p : ℕ) (h : p < length m) (a : Accepted start m) w
       ∙ ap (λ l. l ++ (get_or m p [] ∷ drop (p + 1) m)) before_is.parts
       ∙ around m p h
 
-  pub item_sound : All Sound ((item_at m p).taken ++ (item_at m p).bytes ∷ [])
-  item_sound = all_front ((state (take p m)).waiting ++ get_or m p [] ∷ []) (drop (p + 1) m) (all_back before_is.front (((state (take p m)).waiting ++ get_or m p [] ∷ []) ++ drop (p + 1) m) (subst (All Sound) (sym item_parts) (all_sound start m a)))
+  pub item_sound : AllByRecursion Sound ((item_at m p).taken ++ (item_at m p).bytes ∷ [])
+  item_sound = all_front ((state (take p m)).waiting ++ get_or m p [] ∷ []) (drop (p + 1) m) (all_back before_is.front (((state (take p m)).waiting ++ get_or m p [] ∷ []) ++ drop (p + 1) m) (subst (AllByRecursion Sound) (sym item_parts) (all_sound start m a)))
 
   front_length : (from : ℕ) → TakingAt m p from → from ≡ length (image before_is.front)
   front_length from t =
@@ -298,7 +298,7 @@ module _ {d : Counts} {bytes : List ℕ} {slots : List Slot} {m : List Record} (
   pub same_block : (r : Record) → Sound r → (from end : ℕ) → TakingAt m p from → end ≡ length (image (take (p + 1) m)) → (w : List ℕ) → w ≡ image (state m).waiting → (b : Bool) → Decides b (between from end bytes ≡ w ++ r) → equal_items (item_at m p) (item_of (state m) r) ≡ b
   same_block r sound from end t is w w_is b decides =
       let f = fronted_so m holds.accepted in
-      let waiting_sound : All Sound (state m).waiting = all_back f.front (state m).waiting (subst (All Sound) (sym f.parts) (all_sound start m holds.accepted)) in
+      let waiting_sound : AllByRecursion Sound (state m).waiting = all_back f.front (state m).waiting (subst (AllByRecursion Sound) (sym f.parts) (all_sound start m holds.accepted)) in
       let other : w ++ r ≡ block_of (item_of (state m) r) = ap (λ x. x ++ r) w_is ∙ sym (image_push (state m).waiting r) in
       let here : between from end bytes ≡ block_of (item_at m p) = item_block m p inside holds.accepted holds from end t is in
       let e = blocks_decide (item_at m p) (item_of (state m) r) (item_sound m p inside holds.accepted) (All-push Sound (state m).waiting r waiting_sound sound) in

@@ -1,6 +1,6 @@
 -- Each table is in order of arrival, below what is kept, and an item that arrives keeps it so.
 use Rattle.std.proofs.Common.{◌≡◌, ℕ, ◌+◌, ◌<◌, ◌≤◌, List, [], ◌∷◌, ◌++◌, map, Some, None, Option, sym, refl, ap, subst, arith}
-use Rattle.std.specs.List.{AllByRecursion as All}
+use Rattle.std.specs.List.{AllByRecursion}
 use Rattle.std.proofs.ByRecursion.{All-push, All-weaker}
 use Rattle.rules.specs.Module.{Item, Body, Module, opened_by, add_type, add_override, add_constant, add_global, set_special, add_predeclared, add_filter, set_leaf, add_expression, add_function, add_entry, add_argument, set_result, add_local, add_named, add_inner, add_statement, closed}
 use Rattle.laws.specs.Decoded.{Starts, Arrived}
@@ -8,13 +8,13 @@ use Rattle.laws.specs.Decoded.{Starts, Arrived}
 -- items in order of arrival, all of them before n
 pub record Sorted (n : ℕ) (xs : List Item) : Type 0 where
   pub arrived : Arrived xs
-  pub below : All (λ i. i.place < n) xs
+  pub below : AllByRecursion (λ i. i.place < n) xs
 
-all_places : (P : ℕ → Type 0) (xs : List Item) (i : Item) → All P (map (λ x. x.place) xs) → P i.place → All P (map (λ x. x.place) (xs ++ i ∷ []))
+all_places : (P : ℕ → Type 0) (xs : List Item) (i : Item) → AllByRecursion P (map (λ x. x.place) xs) → P i.place → AllByRecursion P (map (λ x. x.place) (xs ++ i ∷ []))
 all_places P [] i a h = (h, tt)
 all_places P (x ∷ xs) i a h = (a.0, all_places P xs i a.1 h)
 
-arrived_push : (xs : List Item) (i : Item) → Arrived xs → All (λ x. x.place < i.place) xs → Arrived (xs ++ i ∷ [])
+arrived_push : (xs : List Item) (i : Item) → Arrived xs → AllByRecursion (λ x. x.place < i.place) xs → Arrived (xs ++ i ∷ [])
 arrived_push [] i a b = (tt, tt)
 arrived_push (x ∷ xs) i a b = (all_places (λ p. x.place < p) xs i a.0 b.0, arrived_push xs i a.1 b.1)
 
@@ -68,8 +68,8 @@ pub record FineModule (low n : ℕ) (m : Module) : Type 0 where
   pub expressions : Sorted n m.expressions
   pub functions : Sorted low (map (λ b. b.opener) m.functions)
   pub entries : Sorted low (map (λ b. b.opener) m.entries)
-  pub in_functions : All (FineBody n) m.functions
-  pub in_entries : All (FineBody n) m.entries
+  pub in_functions : AllByRecursion (FineBody n) m.functions
+  pub in_entries : AllByRecursion (FineBody n) m.entries
 
 pub body_later : (n k : ℕ) → n ≤ k → (b : Body) → FineBody n b → FineBody k b
 body_later n k h b f = record {

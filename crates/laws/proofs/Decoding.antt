@@ -1,6 +1,6 @@
 -- Every kept record stands in the module once, and each table is in order of arrival.
 use Rattle.std.proofs.Common.{◌≡◌, ℕ, ◌+◌, ◌≤◌, true, false, List, [], ◌∷◌, ◌++◌, length, is_some, sum_by, sym, refl, ap, ◌∙◌, inl, inr, ⊎_elim, arith, length-append}
-use Rattle.std.specs.List.{ContainsAt as Has, AllByRecursion as All}
+use Rattle.std.specs.List.{ContainsAt as Has, AllByRecursion}
 use Rattle.std.proofs.ByRecursion.{All-push, All-weaker, All-append, has_append_left, has_append_right, has_push}
 use Rattle.std.proofs.lemmas.List.Sums.{sum_by-append}
 use Rattle.std.proofs.lemmas.Bool.{and_parts}
@@ -28,7 +28,7 @@ record Sound (m : List Record) (s : State) : Type 0 where
   idle : s.waits ≡ waits.Nothing → s.waiting ≡ []
   good : Good s.built s.opened s.body s.kept
   gone : List Entry
-  replaced : All (ReplacedAt s.built s.opened s.body) gone
+  replaced : AllByRecursion (ReplacedAt s.built s.opened s.body) gone
   once : (w : Entry → ℕ) → sum_by w (numbered_from 0 m) ≡ standing_weight w s.built s.opened s.body + waiting_weight w s.kept s.waiting + sum_by w gone
 
 waits_fit : (j : Waits) (ws : List Record) (r : Record) (n : ℕ) → length ws ≤ n → length (waiting_after j ws r) ≤ n + 1
@@ -91,7 +91,7 @@ sound_start =
     }
 
 -- the bodies that ended, and the open one
-all_bodies : (P : Body → Type 0) (o : Open) (m : Module) (b : Body) → All P m.functions → All P m.entries → (IsOpen o → P b) → All P (functions_now o m b ++ entries_now o m b)
+all_bodies : (P : Body → Type 0) (o : Open) (m : Module) (b : Body) → AllByRecursion P m.functions → AllByRecursion P m.entries → (IsOpen o → P b) → AllByRecursion P (functions_now o m b ++ entries_now o m b)
 all_bodies P open_body.Nothing m b f e h = All-append P m.functions m.entries f e
 all_bodies P open_body.Function m b f e h = All-append P (m.functions ++ b ∷ []) m.entries (All-push P m.functions b f (h tt)) e
 all_bodies P open_body.EntryPoint m b f e h = All-append P m.functions (m.entries ++ b ∷ []) f (All-push P m.entries b e (h tt))

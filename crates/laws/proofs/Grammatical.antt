@@ -1,6 +1,6 @@
 -- The statements of every body that has ended are a block.
 use Rattle.std.proofs.Common.{◌≡◌, ℕ, true, List, [], ◌∷◌, ◌++◌, is_some, Ok, sym, refl, ap, ◌∙◌, subst, append_assoc, append-nil, arith}
-use Rattle.std.specs.List.{AllByRecursion as All}
+use Rattle.std.specs.List.{AllByRecursion}
 use Rattle.std.proofs.lemmas.Bool.{and_parts}
 use Rattle.std.proofs.ByRecursion.{All-push}
 use Rattle.ir.specs.declared.kinds.Kind.{Kind}
@@ -33,8 +33,8 @@ Ended b = Block (kinds b.statements)
 
 -- what each record keeps: whatever closes the open brackets makes a block of the open body
 record Running (s : State) : Type 0 where
-  functions : All Ended s.built.functions
-  entries : All Ended s.built.entries
+  functions : AllByRecursion Ended s.built.functions
+  entries : AllByRecursion Ended s.built.entries
   so_far : (tail : List ℕ) → Closing s.brackets tail → Block (kinds s.body.statements ++ tail)
   outside : s.opened ≡ open_body.Nothing → s.brackets ≡ []
 
@@ -79,12 +79,12 @@ whole bs ks none f = subst Block (append-nil ks) (f [] (subst (λ l. Closing l [
 
 -- a body that ends joins its table
 module _ (b : Body) (i : Item) (m : Module) (block : Block (kinds b.statements)) where
-  functions_then : (o : Open) → All Ended m.functions → All Ended (module_after kind.EndFunction o b i m).functions
+  functions_then : (o : Open) → AllByRecursion Ended m.functions → AllByRecursion Ended (module_after kind.EndFunction o b i m).functions
   functions_then open_body.Nothing h = h
   functions_then open_body.Function h = All-push Ended m.functions (closed b i) h block
   functions_then open_body.EntryPoint h = h
 
-  entries_then : (o : Open) → All Ended m.entries → All Ended (module_after kind.EndFunction o b i m).entries
+  entries_then : (o : Open) → AllByRecursion Ended m.entries → AllByRecursion Ended (module_after kind.EndFunction o b i m).entries
   entries_then open_body.Nothing h = h
   entries_then open_body.Function h = h
   entries_then open_body.EntryPoint h = All-push Ended m.entries (closed b i) h block
@@ -110,8 +110,8 @@ module _ (s : State) (r : Record) (w : Running s) where
   -- a record that moves no bracket, begins and ends no body, and is no statement
   stays : (t : State) → t.built.functions ≡ s.built.functions → t.built.entries ≡ s.built.entries → t.body.statements ≡ s.body.statements → t.brackets ≡ s.brackets → t.opened ≡ s.opened → Running t
   stays t f e x b o = record {
-    functions = subst (All Ended) (sym f) w.functions;
-    entries = subst (All Ended) (sym e) w.entries;
+    functions = subst (AllByRecursion Ended) (sym f) w.functions;
+    entries = subst (AllByRecursion Ended) (sym e) w.entries;
     so_far = λ tail c. subst (λ l. Block (kinds l ++ tail)) (sym x) (w.so_far tail (subst (λ l. Closing l tail) b c));
     outside = λ n. b ∙ w.outside (sym o ∙ n);
   }

@@ -1,7 +1,7 @@
 -- What a record does to the module and to the open body: nothing is lost but what a later one replaces.
 use Rattle.std.proofs.Common.{◌≡◌, ℕ, ◌+◌, ◌-◌, ◌<◌, ◌≤◌, true, ◌⊎◌, List, [], ◌∷◌, ◌++◌, length, Some, None, sum_by, Option, sym, refl, ◌∙◌, subst, inl, inr, ⊎_elim, arith}
 use Rattle.draft.proofs.Tallying.{statement_stays}
-use Rattle.std.specs.List.{ContainsAt as Has, AllByRecursion as All}
+use Rattle.std.specs.List.{ContainsAt as Has, AllByRecursion}
 use Rattle.std.proofs.ByRecursion.{has_append_left, has_push}
 use Rattle.ir.specs.declared.kinds.Kind.{Kind}
 use Rattle.ir.specs.declared.kinds.Kind.TheVariants as kind
@@ -67,16 +67,16 @@ pub record Moved (n : ℕ) (j : Waits) (i : Item) (m : Module) (o : Open) (b : B
   pub good : Good m' o' b' (n + 1)
   pub carried : (e : Entry) → ReplacedAt m o b e → ReplacedAt m' o' b' e
   pub gone : List Entry
-  pub replaced : All (ReplacedAt m' o' b') gone
+  pub replaced : AllByRecursion (ReplacedAt m' o' b') gone
   pub once : (w : Entry → ℕ) → standing_weight w m' o' b' + sum_by w gone ≡ standing_weight w m o b + added w j i
 
 -- the one entry of an item that a later one may replace
-fallen : (P : Entry → Type 0) (k low n : ℕ) (o : Option Item) → Marked k low n o → ((e : Entry) → Starts e.1 k → low ≤ e.0 → e.0 < n → P e) → All P (entries_of_any o)
+fallen : (P : Entry → Type 0) (k low n : ℕ) (o : Option Item) → Marked k low n o → ((e : Entry) → Starts e.1 k → low ≤ e.0 → e.0 < n → P e) → AllByRecursion P (entries_of_any o)
 fallen P k low n None x f = tt
 fallen P k low n (Some i) x f =
     let l = x.above in
     let h = x.below in
-    subst (λ t. All P (numbered_from (i.place - length t) (t ++ i.bytes ∷ []))) (sym x.bare) (f (i.place - 0, i.bytes) x.starts (omega arith) (omega arith), tt)
+    subst (λ t. AllByRecursion P (numbered_from (i.place - length t) (t ++ i.bytes ∷ []))) (sym x.bare) (f (i.place - 0, i.bytes) x.starts (omega arith) (omega arith), tt)
 
 later_grows : (k low n : ℕ) (o : Option Item) (i : Item) → Marked k low n o → i.place ≡ n → (p : ℕ) → Later o p → Later (Some i) p
 later_grows k low n None i x at p h = absurd h

@@ -1,6 +1,6 @@
 -- Every kept record stands in the module once, and each table is in order of arrival.
 use Rattle.std.specs.Prelude.{◌≡◌, ℕ, ◌+◌, ◌-◌, ◌<◌, ◌⊎◌, List, [], ◌∷◌, ◌++◌, map, length, Some, None, sum_by, Option}
-use Rattle.std.specs.List.{ContainsAt as Has, flat_map, AllByRecursion as All}
+use Rattle.std.specs.List.{ContainsAt as Has, flat_map, AllByRecursion}
 use Rattle.rules.specs.Module.{Record, Item, Body, Module}
 use Rattle.draft.specs.State.{State, state, functions_now, entries_now}
 
@@ -57,7 +57,7 @@ Replaced s e =
 
 abbrev pub Ascending : List ℕ → Type 0
 Ascending [] = Unit {0}
-Ascending (x ∷ xs) = All (λ y. x < y) xs × Ascending xs
+Ascending (x ∷ xs) = AllByRecursion (λ y. x < y) xs × Ascending xs
 
 -- items in order of arrival
 abbrev pub Arrived : List Item → Type 0
@@ -85,7 +85,7 @@ pub record ModuleArrived (m : Module) : Type 0 where
 -- they are weighed, both weigh the same
 pub record Decoded (m : List Record) : Type 0 where
   pub gone : List Entry
-  pub replaced : All (Replaced (state m)) gone
+  pub replaced : AllByRecursion (Replaced (state m)) gone
   pub once : (weight : Entry → ℕ) → sum_by weight (numbered_from 0 m) ≡ sum_by weight (standing (state m)) + sum_by weight gone
   pub tables : ModuleArrived (state m).built
-  pub in_bodies : All BodyArrived (bodies (state m))
+  pub in_bodies : AllByRecursion BodyArrived (bodies (state m))

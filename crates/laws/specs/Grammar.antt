@@ -1,6 +1,6 @@
 -- The statements of a body, by a grammar over the kinds of their records.
 use Rattle.std.specs.Prelude.{◌≡◌, ℕ, Bool, true, ◌||◌, List, [], ◌∷◌, ◌++◌, ◌==◌}
-use Rattle.std.specs.List.{flat_map, AllByRecursion as All}
+use Rattle.std.specs.List.{flat_map, AllByRecursion}
 use Rattle.ir.specs.Number.{within}
 use Rattle.rules.specs.Module.{Record, Item, Body}
 use Rattle.draft.specs.State.{state}
@@ -38,5 +38,5 @@ kinds items = flat_map (λ i. kind_byte i.bytes) items
 
 -- the statements of every body that has ended are a block
 pub record Grammatical (m : List Record) : Type 0 where
-  pub functions : All (λ b. Block (kinds b.statements)) (state m).built.functions
-  pub entries : All (λ b. Block (kinds b.statements)) (state m).built.entries
+  pub functions : AllByRecursion (λ b. Block (kinds b.statements)) (state m).built.functions
+  pub entries : AllByRecursion (λ b. Block (kinds b.statements)) (state m).built.entries
