@@ -1,2 +1,2 @@
-//! stub
+//! Definitions of the handles in a field of a record.
 #![tactic(auto)]

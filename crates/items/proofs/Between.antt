@@ -1,7 +1,9 @@
 -- Items place by place.
-use Rattle.std.proofs.Common.{◌≡◌, ℕ, zero, suc, ◌+◌, ◌-◌, ◌<◌, ◌≤◌, min, Bool, true, false, cond, List, [], ◌∷◌, ◌++◌, length, get_or, take, drop, Some, None, sym, refl, ap, ◌∙◌, subst, ⊎_elim, append_assoc, append-nil, arith}
+use Rattle.std.proofs.Common.{◌≡◌, ℕ, zero, suc, ◌+◌, ◌-◌, ◌<◌, ◌≤◌, min, Bool, true, false, cond, List, [], ◌∷◌, ◌++◌, length, get_or, take, drop, Some, None, fold, sym, refl, ap, ◌∙◌, subst, ⊎_elim, append_assoc, append-nil, arith}
 use Rattle.std.specs.List.{slice_get}
-use Rattle.std.proofs.lemmas.List.{at_drop_more, at_drop_all, get_or-take, length-take-le, length-take}
+use Rattle.std.proofs.lemmas.List.{at_drop_more, at_drop_all, get_or-take, length-take-le, length-take, drop-take, drop-drop, length_push}
+use Rattle.std.proofs.Math.Seq.{take-add}
+use Rattle.std.proofs.lemmas.List.Sums.{fold-append}
 use Rattle.std.proofs.lemmas.Option.{slice_get-get_or, slice_get_past as nth_past}
 use Rattle.std.proofs.lemmas.Bool.{cond-true, cond-false, cases_lt}
 use Rattle.rules.specs.Module.{Record, Item}
@@ -21,6 +23,9 @@ use Rattle.items.specs.Between.{EntryAt, item_at, gained, items_between}
 -- a place at which there is a record is one of the list
 pub within : {X : Type 0} (m : List X) (x : ℕ) (r : X) → slice_get m x ≡ Some r → x < length m
 within m x r e = ⊎_elim (λ l. l) (λ l. let p = nth_past m x l in let z : ◌≡◌ {A = ℕ} 0 1 = cc in absurd (omega arith)) (cases_lt x (length m))
+
+within_next : {X : Type 0} (m : List X) (x : ℕ) (r : X) → slice_get m x ≡ Some r → x + 1 ≤ length m
+within_next m x r e = let l = within m x r e in omega arith
 
 pub here_is : (m : List Record) (x : ℕ) (r : Record) → slice_get m x ≡ Some r → get_or m x [] ≡ r
 here_is m x r e = let g = slice_get-get_or m x [] (within m x r e) in cc
@@ -72,17 +77,57 @@ pub none_between : (sec : Section) (m : List Record) (x to : ℕ) → to ≤ x �
 unfolding items_between
 none_between sec m x to l = let n = length-take to m in at_drop_all (gained sec (state (take x m))) (take to m) x (omega arith)
 
+kept_in_front : {X : Type 0} (i : X) (all front rest : List X) (b : Bool) → all ≡ front ++ rest → cond b (i ∷ all) all ≡ cond b (i ∷ front) front ++ rest
+kept_in_front i all front rest true e = ap (λ l. i ∷ l) e
+kept_in_front i all front rest false e = e
+
+-- items of records that follow one another
+gained_append : (sec : Section) (s : State) (xs ys : List Record) → gained sec s (xs ++ ys) ≡ gained sec s xs ++ gained sec (fold step s xs) ys
+gained_append sec s [] ys = refl
+gained_append sec s (r ∷ xs) ys = kept_in_front _ _ _ _ (selects sec s r) (gained_append sec (step s r) xs ys)
+
+state_on : (m : List Record) (from n : ℕ) → state (take (from + n) m) ≡ fold step (state (take from m)) (take n (drop from m))
+unfolding state
+state_on m from n = ap (fold step start) (take-add from n m) ∙ fold-append step start (take from m) (take n (drop from m))
+
+-- the same, of the records between places
+between_parts : (sec : Section) (m : List Record) (from n k : ℕ) → items_between sec m from (from + (n + k)) ≡ items_between sec m from (from + n) ++ items_between sec m (from + n) (from + n + k)
+unfolding items_between
+between_parts sec m from n k =
+    let s = state (take from m) in
+    let xs = take n (drop from m) in
+    let ys = take k (drop n (drop from m)) in
+    let rest : drop (from + n) (take (from + n + k) m) ≡ ys = drop-take (from + n) k m ∙ ap (take k) (sym (drop-drop n from m)) in
+    ap (gained sec s) (drop-take from (n + k) m ∙ take-add n k (drop from m))
+    ∙ gained_append sec s xs ys
+    ∙ ap (λ l. gained sec s l ++ gained sec (fold step s xs) ys) (sym (drop-take from n m))
+    ∙ ap (λ u. gained sec s (drop from (take (from + n) m)) ++ gained sec u ys) (sym (state_on m from n))
+    ∙ ap (λ l. gained sec s (drop from (take (from + n) m)) ++ gained sec (state (take (from + n) m)) l) (sym rest)
+
 -- the items up to a place in the midst, and those from there on
 pub between_append : (sec : Section) (m : List Record) (a : Accepted start m) (from x to : ℕ) → from ≤ x → x ≤ to → to ≤ length m → items_between sec m from to ≡ items_between sec m from x ++ items_between sec m x to
-between_append sec m a from x to l u t = ?
+between_append sec m a from x to l u t =
+    let n : from + (x - from) ≡ x = omega arith in
+    let k : x + (to - x) ≡ to = omega arith in
+    let w : from + ((x - from) + (to - x)) ≡ to = omega arith in
+    let p = between_parts sec m from (x - from) (to - x) in
+    simp (n, k, w) at p
 
 -- how many items there are before the next place
 module _ (sec : Section) (m : List Record) (a : Accepted start m) (from x : ℕ) (b : from ≤ x) (r : Record) (e : slice_get m x ≡ Some r) (slot : Slot) (at : EntryAt m x slot r) where
   pub count_hit : chosen sec slot.table r ≡ true → length (items_between sec m from (x + 1)) ≡ suc (length (items_between sec m from x))
-  count_hit c = ?
+  count_hit c =
+      let p = between_append sec m a from x (x + 1) b (omega arith) (within_next m x r e) in
+      let h = hit sec m a x (x + 1) r e (omega arith) (within_next m x r e) slot at c in
+      let n = none_between sec m (x + 1) (x + 1) (omega arith) in
+      let q = ap length (p ∙ ap (λ l. items_between sec m from x ++ l) (h ∙ ap (λ l. item_at m x r ∷ l) n)) ∙ length_push (items_between sec m from x) (item_at m x r) in omega arith
 
   pub count_miss : chosen sec slot.table r ≡ false → length (items_between sec m from (x + 1)) ≡ length (items_between sec m from x)
-  count_miss c = ?
+  count_miss c =
+      let p = between_append sec m a from x (x + 1) b (omega arith) (within_next m x r e) in
+      let h = miss sec m a x (x + 1) r e (omega arith) (within_next m x r e) slot at c in
+      let n = none_between sec m (x + 1) (x + 1) (omega arith) in
+      ap length (p ∙ ap (λ l. items_between sec m from x ++ l) (h ∙ n)) ∙ ap length (append-nil (items_between sec m from x))
 
 -- the slot at a place
 pub slot_there : {d : Counts} {bytes : List ℕ} {slots : List Slot} {m : List Record} → Holds d bytes slots m → (x : ℕ) → x < length m → slice_get (layout m) x ≡ Some (slot_of (state (take x m)) (get_or m x []))

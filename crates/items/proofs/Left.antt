@@ -49,7 +49,7 @@ module _ (f : ℕ → Item → List Test) (sec : Section) (m : List Record) (fro
     -- an item whose tests pass, and one with a fault
     pub left_pass : chosen sec slot.table r ≡ true → first (f so_far (item_at m x r)) ≡ None → left f sec m from x to ≡ left f sec m from (x + 1) to
     unfolding left
-    left_pass c p = left_split c ∙ passed _ _ p
+    left_pass c p = left_split c ∙ passed (f so_far (item_at m x r)) (numbered_from f (length (items_between sec m from (x + 1))) (items_between sec m (x + 1) to)) p
 
     pub left_fail : chosen sec slot.table r ≡ true → (e : Fault) → first (f so_far (item_at m x r)) ≡ Some e → left f sec m from x to ≡ Some e
-    left_fail c e p = left_split c ∙ stopped _ _ e p
+    left_fail c e p = left_split c ∙ stopped (f so_far (item_at m x r)) (numbered_from f (length (items_between sec m from (x + 1))) (items_between sec m (x + 1) to)) e p

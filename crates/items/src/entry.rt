@@ -18,7 +18,7 @@ pub struct Entry<'a> {
 pub fn entry_at<'a>(view: View<'a>, place: usize) -> Entry<'a>
     requires views { Views view }
     requires within { place < length (viewed view) }
-    ensures { EntryAt (viewed view.entry) place result.slot result.record.bytes.now }
+    ensures { EntryAt (viewed view.entry) place result.slot result.«record».bytes.now }
 {
     let Some(slot) = view.slot(place) else {
         unreachable()

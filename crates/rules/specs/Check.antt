@@ -5,7 +5,7 @@ use Rattle.ir.specs.declared.handle.Table.TheVariants as table
 use Rattle.ir.specs.declared.handle.Handle.{Handle}
 use Rattle.ir.specs.declared.handle.Handle.TheVariants as handle
 use Rattle.ir.specs.Handle.{named, index_of}
-use Rattle.handles.specs.Handles.{handles_of, tested_of}
+use Rattle.records.specs.Handles.{handles_of, tested_of}
 use Rattle.records.specs.Record.{number}
 use Rattle.rules.specs.declared.faults.Fault.{Fault}
 use Rattle.rules.specs.Module.{Item, Body, Module}

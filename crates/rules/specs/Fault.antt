@@ -4,7 +4,7 @@ use Rattle.ir.specs.declared.handle.Table.{Table}
 use Rattle.ir.specs.declared.handle.Table.TheVariants as table
 use Rattle.ir.specs.declared.handle.Handle.{Handle}
 use Rattle.ir.specs.Handle.{table_of, index_of}
-use Rattle.handles.specs.Handles.{handles_of}
+use Rattle.records.specs.Handles.{handles_of}
 use Rattle.rules.specs.declared.faults.FaultKind.{FaultKind}
 use Rattle.rules.specs.declared.faults.FaultKind.TheVariants as kind
 use Rattle.rules.specs.declared.faults.Fault.{Fault}
