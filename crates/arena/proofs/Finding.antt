@@ -1,9 +1,9 @@
 -- The search for a kept type that equals another.
-use Rattle.std.proofs.Common.{◌≡◌, ℕ, zero, suc, ◌+◌, ◌-◌, ◌<◌, ◌≤◌, Bool, true, false, cond, List, [], ◌∷◌, ◌++◌, length, get_or, take, drop, is_ok, Some, None, Ok, Err, Decides, fold, Option, sym, refl, ap, ◌∙◌, subst, ⊎_elim, append_assoc, append-nil, arith, length-append}
+use Rattle.std.proofs.Common.{◌≡◌, ℕ, zero, suc, ◌+◌, ◌<◌, ◌≤◌, Bool, true, false, cond, List, [], ◌∷◌, ◌++◌, length, get_or, take, drop, is_ok, Some, None, Decides, fold, Option, sym, refl, ap, ◌∙◌, subst, append_assoc, append-nil, arith, length-append}
 use Rattle.std.specs.List.{between, AllByRecursion}
 use Rattle.std.proofs.lemmas.List.{at_drop_more, at_drop_all, take-append-drop, take_more}
 use Rattle.std.proofs.lemmas.List.Sums.{fold_more}
-use Rattle.std.proofs.lemmas.Bool.{cond-true, cond-false, cases_Bool}
+use Rattle.std.proofs.lemmas.Bool.{cond-true, cond-false}
 use Rattle.std.proofs.ByRecursion.{All-push}
 use Rattle.ir.specs.declared.kinds.Kind.{Kind}
 use Rattle.ir.specs.declared.kinds.Kind.TheVariants as kind
@@ -17,12 +17,12 @@ use Rattle.arena.specs.declared.slot.Slot.{Slot}
 use Rattle.draft.specs.declared.counts.Counts.{Counts}
 use Rattle.draft.specs.Manner.{manner_of}
 use Rattle.rules.specs.Module.{Record, Item, Body, Module}
-use Rattle.draft.specs.State.{State, start, step, stepped, state, item_of, module_after, waiting_after, table_in, table_of, number_of_next}
+use Rattle.draft.specs.State.{State, start, step, state, item_of, module_after, waiting_after, table_in, number_of_next}
 use Rattle.arena.specs.Put.{equal_items, known_from, known}
 use Rattle.arena.specs.Memory.{table_judged, slot_of, Holds}
-use Rattle.draft.proofs.Stepping.{Admits, admitted_kind, step_is, accepted_front, image_append, image_more, image_push}
+use Rattle.draft.proofs.Stepping.{admitted_kind, step_is, accepted_front, image_append, image_more, image_push}
 use Rattle.draft.proofs.Fronts.{Fronted, fronted_so}
-use Rattle.arena.proofs.Placing.{around, kept_is, block_is, state_at}
+use Rattle.arena.proofs.Placing.{around, kept_is, block_is}
 use Rattle.arena.proofs.Blocks.{Sound, all_sound, all_front, all_back, block_of, blocks_decide}
 
 -- the type that a record of this table makes

@@ -1,22 +1,19 @@
 -- What stands where in the memory of a draft.
-use Rattle.std.proofs.Common.{◌≡◌, ℕ, zero, suc, ◌+◌, ◌-◌, ◌<◌, ◌≤◌, Bool, true, false, cond, List, [], ◌∷◌, ◌++◌, length, get_or, take, drop, set, is_ok, Ok, Err, fold, Result, sym, refl, ap, ◌∙◌, subst, append_assoc, append-nil, arith, length-append, length-drop, length-take}
+use Rattle.std.proofs.Common.{◌≡◌, ℕ, zero, suc, ◌+◌, ◌-◌, ◌<◌, ◌≤◌, true, List, [], ◌∷◌, ◌++◌, length, get_or, take, drop, set, is_ok, fold, sym, refl, ap, ◌∙◌, subst, append_assoc, append-nil, arith, length-append, length-drop, length-take}
 use Rattle.std.specs.List.{between}
-use Rattle.std.proofs.lemmas.List.{take_at, take_all, drop_at, get_or-take, take_more_set, take-append-drop, take_more, drop_more, length-take-le}
-use Rattle.std.proofs.lemmas.List.Sums.{fold_more}
+use Rattle.std.proofs.lemmas.List.{take_at, take_all, drop_at, get_or-take, take_more_set, take-append-drop, take_more, drop_more}
 use Rattle.ir.specs.declared.kinds.Kind.{Kind}
-use Rattle.records.specs.Record.{judged}
 use Rattle.draft.specs.Admitted.{Accepted, admitted, image}
-use Rattle.draft.specs.declared.state.SlotTable.{SlotTable}
 use Rattle.arena.specs.declared.Draft.{Draft}
 use Rattle.arena.specs.declared.slot.Slot.{Slot}
 use Rattle.draft.specs.declared.counts.Counts.{Counts}
 use Rattle.draft.specs.Manner.{manner_of}
 use Rattle.rules.specs.Module.{Record}
-use Rattle.draft.specs.State.{State, start, step, stepped, state, table_of, number_of_next}
-use Rattle.draft.specs.Counting.{counts_of, advanced, counted, lengths_of}
+use Rattle.draft.specs.State.{State, start, step, state, table_of}
+use Rattle.draft.specs.Counting.{counts_of, advanced}
 use Rattle.arena.specs.Memory.{Stands, Free, table_judged, slot_in, slot_of, layout_from, layout, Holds, next_start, cuts, read_off, Standing}
 use Rattle.draft.proofs.Stepping.{Admits, step_is, state_push, accepted_more, accepted_front, admitted_kind, image_append, image_push, image_more, Counted, counted_so}
-use Rattle.draft.proofs.Tallying.{counts_after, counted_is}
+use Rattle.draft.proofs.Tallying.{counts_after}
 
 pub layout_push : (s : State) (m : List Record) (r : Record) → layout_from s (m ++ r ∷ []) ≡ layout_from s m ++ slot_of (fold step s m) r ∷ []
 layout_push s [] r = refl

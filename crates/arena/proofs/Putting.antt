@@ -1,6 +1,6 @@
 -- What put leaves in memory: one record more, or fewer by those that waited.
-use Rattle.std.proofs.Common.{◌≡◌, ℕ, suc, ◌+◌, ◌-◌, ◌^◌, ◌<◌, ◌≤◌, Bool, true, false, cond, ltb, leb, List, [], ◌∷◌, ◌++◌, length, take, drop, set, is_ok, is_err, Some, None, Ok, Err, Option, Result, sym, refl, ap, ◌∙◌, subst, append-nil, arith, length-append}
-use Rattle.std.proofs.lemmas.List.{take-take, take_at, take-append-drop}
+use Rattle.std.proofs.Common.{◌≡◌, ℕ, ◌+◌, ◌-◌, ◌<◌, ◌≤◌, true, false, ltb, leb, List, [], ◌∷◌, ◌++◌, length, take, set, is_ok, Some, None, Ok, Err, Option, Result, sym, refl, ap, ◌∙◌, subst, append-nil, arith, length-append}
+use Rattle.std.proofs.lemmas.List.{take-take, take_at}
 use Rattle.std.proofs.lemmas.Bool.Decides.{nat_tests}
 use Rattle.std.proofs.lemmas.Bool.{cond-true, cond-false, and_parts, leb-true, ltb-true}
 use Rattle.std.specs.List.{between}
@@ -9,7 +9,6 @@ use Rattle.records.specs.Record.{judged}
 use Rattle.draft.specs.Admitted.{Accepted, admitted, admitted_with, image}
 use Rattle.draft.specs.declared.refusal.Refusal.{Refusal}
 use Rattle.draft.specs.declared.refusal.Refusal.TheVariants.{Full}
-use Rattle.draft.specs.declared.manner.Manner.{Manner}
 use Rattle.draft.specs.declared.manner.Turn.{Turn}
 use Rattle.draft.specs.declared.state.Open.{Open}
 use Rattle.draft.specs.declared.state.Open.TheVariants as open_body
@@ -25,10 +24,10 @@ use Rattle.draft.specs.Stacking.{Turns}
 use Rattle.arena.specs.declared.answer.Answer.{Answer}
 use Rattle.arena.specs.Answer.{answered}
 use Rattle.arena.specs.Put.{has_room, fits, added, known, known_or_added, put_in, put_admitted, put_def}
-use Rattle.arena.specs.Memory.{layout_from, layout, Holds, read_off, Standing, Kept, slot_of, slot_in}
+use Rattle.arena.specs.Memory.{layout_from, layout, Holds, Kept, slot_of, slot_in}
 use Rattle.draft.proofs.Stepping.{Admits, admits, accepted_front, image_append}
 use Rattle.draft.proofs.Tallying.{top_is, turns_fit, counted_is}
-use Rattle.arena.proofs.Placing.{used_is, kept_is, used_within, kept_within, records_are, stands_now, holds_push, counted_now, block_is}
+use Rattle.arena.proofs.Placing.{used_is, kept_is, records_are, stands_now, holds_push, counted_now, block_is}
 use Rattle.draft.proofs.Fronts.{Fronted, fronted_so, front_is, waiting_within, bare}
 
 layout_front : (s : State) (a b : List Record) → take (length a) (layout_from s (a ++ b)) ≡ layout_from s a

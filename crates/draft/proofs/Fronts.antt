@@ -1,15 +1,14 @@
 -- The records that wait are the last of the kept ones, and without them the state is as it was.
-use Rattle.std.proofs.Common.{◌≡◌, ℕ, ◌+◌, ◌-◌, ◌<◌, ◌≤◌, ◌⊎◌, List, [], ◌∷◌, ◌++◌, length, take, sym, refl, ap, ◌∙◌, subst, inl, inr, ⊎_elim, append_assoc, append-nil, arith, length-append}
+use Rattle.std.proofs.Common.{◌≡◌, ◌+◌, ◌-◌, ◌≤◌, ◌⊎◌, List, [], ◌∷◌, ◌++◌, length, take, sym, refl, ap, ◌∙◌, subst, inl, inr, ⊎_elim, append_assoc, append-nil, arith, length-append}
 use Rattle.std.proofs.lemmas.List.{take_at}
 use Rattle.ir.specs.declared.kinds.Kind.{Kind}
 use Rattle.ir.specs.declared.kinds.Kind.TheVariants as kind
-use Rattle.draft.specs.declared.state.Waits.{Waits}
 use Rattle.draft.specs.declared.state.Waits.TheVariants as waits
 use Rattle.draft.specs.Manner.{manner_of}
 use Rattle.rules.specs.Module.{Record}
 use Rattle.draft.specs.State.{State, start, step, stepped, state, waiting_after}
 use Rattle.draft.specs.Admitted.{image, Accepted}
-use Rattle.draft.proofs.Stepping.{Admits, step_is, state_push, throughout, image_more, Counted, counted_so}
+use Rattle.draft.proofs.Stepping.{Admits, step_is, state_push, throughout, image_more}
 
 -- the state of these records, where nothing waits
 abbrev pub bare : State → List Record → State

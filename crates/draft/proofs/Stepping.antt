@@ -1,18 +1,18 @@
 -- One record more: what it does to the state, and what holds along the way.
-use Rattle.std.proofs.Common.{◌≡◌, ℕ, suc, ◌+◌, ◌-◌, ◌<◌, ◌≤◌, Bool, true, false, cond, leb, List, [], ◌∷◌, ◌++◌, length, is_ok, Some, None, Ok, Err, fold, Option, Result, sym, refl, ap, ◌∙◌, subst, append_assoc, append-nil, arith, length-append}
+use Rattle.std.proofs.Common.{◌≡◌, ℕ, ◌+◌, ◌≤◌, Bool, true, false, cond, List, [], ◌∷◌, ◌++◌, length, is_ok, Some, None, Ok, Err, fold, Option, Result, sym, refl, ap, ◌∙◌, subst, append_assoc, append-nil, arith, length-append}
 use Rattle.std.proofs.lemmas.List.Sums.{fold_push}
 use Rattle.std.proofs.lemmas.Bool.{leb-false}
 use Rattle.ir.specs.declared.kinds.Kind.{Kind}
 use Rattle.records.specs.declared.judge.Flaw.{Flaw}
 use Rattle.records.specs.Record.{judged}
 use Rattle.draft.specs.declared.refusal.Refusal.{Refusal}
-use Rattle.draft.specs.declared.refusal.Refusal.TheVariants.{Flawed, Misplaced, TooDeep, Full}
+use Rattle.draft.specs.declared.refusal.Refusal.TheVariants.{Misplaced, TooDeep}
 use Rattle.draft.specs.declared.state.Bracket.{Bracket}
 use Rattle.draft.specs.declared.manner.Turn.{Turn}
 use Rattle.draft.specs.declared.manner.Turn.TheVariants.{Keep, Push, Swap, Pop}
 use Rattle.draft.specs.Manner.{manner_of, turn_of}
 use Rattle.rules.specs.Module.{Record}
-use Rattle.draft.specs.State.{State, start, step, step_judged, stepped, state, in_place, too_deep, turned, deepens, innermost, outer}
+use Rattle.draft.specs.State.{State, start, step, step_judged, stepped, state, in_place, too_deep, turned, deepens, innermost}
 use Rattle.draft.specs.Admitted.{image, admitted, admitted_with, Accepted}
 
 pub step_is : (s : State) (r : Record) (k : Kind) → judged r ≡ Ok k → step s r ≡ stepped k r s

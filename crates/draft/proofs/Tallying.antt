@@ -1,5 +1,5 @@
 -- The counts after one more record are those of the state after it.
-use Rattle.std.proofs.Common.{◌≡◌, ℕ, suc, ◌+◌, ◌-◌, ◌<◌, ◌≤◌, Bool, true, false, cond, ◌&&◌, eqb, leb, List, [], ◌∷◌, ◌++◌, length, get_or, set, replicate, is_some, Some, None, Option, sym, refl, ap, ◌∙◌, subst, append_assoc, append-nil, add-one, arith, length-append}
+use Rattle.std.proofs.Common.{◌≡◌, ℕ, suc, ◌+◌, ◌-◌, ◌<◌, ◌≤◌, true, false, eqb, List, [], ◌∷◌, ◌++◌, length, get_or, set, replicate, is_some, Some, None, Option, sym, refl, ap, ◌∙◌, append_assoc, arith}
 use Rattle.std.proofs.lemmas.List.{length_push, set_at, get_or_at}
 use Rattle.std.proofs.lemmas.Bool.{leb-false, and_parts, ne_eqb, cond-false}
 use Rattle.ir.specs.declared.kinds.Kind.{Kind}
@@ -19,10 +19,9 @@ use Rattle.draft.specs.declared.manner.Motion.TheVariants as motion
 use Rattle.draft.specs.declared.manner.Turn.{Turn}
 use Rattle.draft.specs.declared.manner.Turn.TheVariants.{Keep, Push, Swap, Pop}
 use Rattle.draft.specs.declared.counts.Lengths.{Lengths}
-use Rattle.draft.specs.declared.counts.Counts.{Counts}
 use Rattle.draft.specs.Manner.{manner_of, turn_of, statement_motion}
 use Rattle.rules.specs.Module.{Record, Module, Body, closed}
-use Rattle.draft.specs.State.{State, stepped, item_of, in_place, too_deep, meets, on_side, turned, deepens, innermost, outer, table_in, table_of, open_after, number_of_next, waiting_after}
+use Rattle.draft.specs.State.{State, stepped, item_of, meets, on_side, turned, deepens, innermost, table_in, open_after, number_of_next, waiting_after}
 use Rattle.draft.specs.Counting.{bottom_up, stack_of, lengths_of, counts_of, counted, counted_more, moved, top, stacked, turned_stack, waiting_more, advanced}
 use Rattle.draft.specs.Stacking.{Turns}
 use Rattle.draft.proofs.Stepping.{Admits}

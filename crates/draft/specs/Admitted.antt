@@ -1,5 +1,5 @@
 -- Which record may come next: refusals 1 to 5.
-use Rattle.std.specs.Prelude.{◌≡◌, ℕ, Bool, true, cond, List, [], ◌∷◌, length, is_ok, Ok, Err, Option, Result}
+use Rattle.std.specs.Prelude.{◌≡◌, ℕ, true, cond, List, [], ◌∷◌, length, is_ok, Ok, Err, Option, Result}
 use Rattle.std.specs.List.{flat_map}
 use Rattle.ir.specs.declared.kinds.Kind.{Kind}
 use Rattle.records.specs.declared.judge.Flaw.{Flaw}

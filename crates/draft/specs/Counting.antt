@@ -1,8 +1,5 @@
 -- The counts of a draft, and how a record changes them.
-use Rattle.std.specs.Prelude.{ℕ, ◌+◌, ◌-◌, Bool, true, false, cond, List, [], ◌∷◌, ◌++◌, length, replicate, Some, None, Option, ◌==◌, slice_index_or, slice_set}
-use Rattle.ir.specs.declared.kinds.Kind.{Kind}
-use Rattle.draft.specs.declared.state.Open.{Open}
-use Rattle.draft.specs.declared.state.Open.TheVariants as open_body
+use Rattle.std.specs.Prelude.{ℕ, ◌+◌, ◌-◌, cond, List, [], ◌∷◌, ◌++◌, length, replicate, Some, None, Option, ◌==◌, slice_index_or, slice_set}
 use Rattle.draft.specs.declared.state.Bracket.{Bracket}
 use Rattle.draft.specs.declared.state.Bracket.TheVariants as bracket
 use Rattle.draft.specs.declared.state.Waits.{Waits}
@@ -18,7 +15,6 @@ use Rattle.draft.specs.declared.counts.Lengths.{Lengths}
 use Rattle.draft.specs.declared.stack.Brackets.{Brackets}
 use Rattle.draft.specs.declared.counts.Counts.{Counts}
 use Rattle.draft.specs.Manner.{turn_of}
-use Rattle.rules.specs.Module.{Record}
 use Rattle.draft.specs.State.{State, number_of_next, table_in, open_after}
 
 -- the outermost first

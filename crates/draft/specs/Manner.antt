@@ -1,5 +1,5 @@
 -- How the records of each kind behave: where they stand, what they have to do with those that wait, what they do to the brackets, and their table.
-use Rattle.std.specs.Prelude.{◌≡◌, Some, None, Option}
+use Rattle.std.specs.Prelude.{Some, None, Option}
 use Rattle.ir.specs.declared.kinds.Kind.{Kind}
 use Rattle.ir.specs.declared.kinds.Kind.TheVariants as kind
 use Rattle.ir.specs.declared.kinds.TypeInner.{TypeInner}
@@ -8,7 +8,6 @@ use Rattle.ir.specs.declared.kinds.Expression.{Expression}
 use Rattle.ir.specs.declared.kinds.Expression.TheVariants as expression
 use Rattle.ir.specs.declared.kinds.Statement.{Statement}
 use Rattle.ir.specs.declared.kinds.Statement.TheVariants as statement
-use Rattle.draft.specs.declared.state.Open.{Open}
 use Rattle.draft.specs.declared.state.Open.TheVariants as open_body
 use Rattle.draft.specs.declared.state.Bracket.{Bracket}
 use Rattle.draft.specs.declared.state.Bracket.TheVariants as bracket

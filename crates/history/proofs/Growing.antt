@@ -7,8 +7,6 @@ use Rattle.ir.specs.declared.handle.Table.{Table}
 use Rattle.ir.specs.declared.handle.Table.TheVariants as handles
 use Rattle.ir.specs.declared.kinds.Kind.{Kind}
 use Rattle.ir.specs.declared.kinds.Kind.TheVariants as kind
-use Rattle.ir.specs.declared.kinds.Statement.{Statement}
-use Rattle.ir.specs.declared.kinds.Statement.TheVariants as statement
 use Rattle.ir.specs.Handle.{table_of as handle_table}
 use Rattle.rules.specs.Module.{Record, Item, Body, Module, opened_by, add_local, add_inner, closed}
 use Rattle.draft.specs.declared.state.Open.{Open}
@@ -16,7 +14,7 @@ use Rattle.draft.specs.declared.state.Open.TheVariants as open_body
 use Rattle.draft.specs.declared.state.Bracket.{Bracket}
 use Rattle.draft.specs.declared.state.Waits.{Waits}
 use Rattle.draft.specs.declared.manner.Side.TheVariants as side
-use Rattle.draft.specs.Manner.{manner_of, statement_motion}
+use Rattle.draft.specs.Manner.{manner_of}
 use Rattle.draft.specs.State.{State, stepped, item_of, on_side, open_after, functions_now, entries_now, module_after, body_after, number_of_next, table_of}
 use Rattle.draft.proofs.Tallying.{statement_stays}
 use Rattle.draft.proofs.Stepping.{Admits}

@@ -1,5 +1,5 @@
 -- The law over lists of puts: a number keeps its item, and two types share a number exactly when they are equal.
-use Rattle.std.specs.Prelude.{◌≡◌, ℕ, true, List, [], ◌∷◌, ◌++◌, Some, Ok, fold}
+use Rattle.std.specs.Prelude.{◌≡◌, ℕ, List, [], ◌∷◌, ◌++◌, Some, Ok, fold}
 use Rattle.std.specs.List.{slice_get}
 use Rattle.ir.specs.declared.handle.Handle.{Handle}
 use Rattle.ir.specs.declared.handle.Handle.TheVariants as handle
@@ -10,7 +10,6 @@ use Rattle.ir.specs.Handle.{index_of, table_of as handle_table}
 use Rattle.rules.specs.Module.{Record, Item}
 use Rattle.draft.specs.State.{State, state}
 use Rattle.draft.specs.Admitted.{admitted}
-use Rattle.arena.specs.declared.answer.Answer.{Answer}
 use Rattle.arena.specs.declared.answer.Answer.TheVariants as answer
 use Rattle.arena.specs.declared.view.Home.{Home}
 use Rattle.arena.specs.Put.{put_def}

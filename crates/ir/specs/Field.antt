@@ -1,6 +1,5 @@
 -- What a field is made of, what it may hold, and which handle it then is.
 use Rattle.std.specs.Prelude.{ℕ, ◌+◌, ◌*◌, Bool, true, cond, not, List, [], ◌∷◌, length, Some, None, Option, ◌==◌}
-use Rattle.ir.specs.declared.handle.Table.{Table}
 use Rattle.ir.specs.declared.handle.Table.TheVariants.{Types, Overrides, GlobalVariables, Expressions}
 use Rattle.ir.specs.declared.fields.Word.{Word}
 use Rattle.ir.specs.declared.fields.Word.TheVariants.{Mark, Number, NonZero, Handle, Optional, Unused}

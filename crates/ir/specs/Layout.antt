@@ -2,9 +2,7 @@
 use Rattle.std.specs.Prelude.{ℕ, ◌+◌, List, [], ◌∷◌}
 use Rattle.ir.specs.declared.handle.Table.{Table}
 use Rattle.ir.specs.declared.handle.Table.TheVariants.{Types, Constants, Overrides, GlobalVariables, LocalVariables, Expressions, Functions, Filters}
-use Rattle.ir.specs.declared.fields.Word.{Word}
 use Rattle.ir.specs.declared.fields.Word.TheVariants as word
-use Rattle.ir.specs.declared.fields.Cases.{Cases}
 use Rattle.ir.specs.declared.fields.Cases.TheVariants as cases
 use Rattle.ir.specs.declared.fields.Field.{Field}
 use Rattle.ir.specs.declared.fields.Field.TheVariants.{Word as one, Case}

@@ -1,12 +1,12 @@
 -- Items place by place.
-use Rattle.std.proofs.Common.{◌≡◌, ℕ, zero, suc, ◌+◌, ◌-◌, ◌<◌, ◌≤◌, min, Bool, true, false, cond, List, [], ◌∷◌, ◌++◌, length, get_or, take, drop, Some, None, fold, sym, refl, ap, ◌∙◌, subst, ⊎_elim, append_assoc, append-nil, arith}
+use Rattle.std.proofs.Common.{◌≡◌, ℕ, zero, suc, ◌+◌, ◌-◌, ◌<◌, ◌≤◌, Bool, true, false, cond, List, [], ◌∷◌, ◌++◌, length, get_or, take, drop, Some, fold, sym, refl, ap, ◌∙◌, subst, ⊎_elim, append-nil, arith}
 use Rattle.std.specs.List.{slice_get}
 use Rattle.std.proofs.lemmas.List.{at_drop_more, at_drop_all, get_or-take, length-take-le, length-take, drop-take, drop-drop, length_push}
 use Rattle.std.proofs.Math.Seq.{take-add}
 use Rattle.std.proofs.lemmas.List.Sums.{fold-append}
 use Rattle.std.proofs.lemmas.Option.{slice_get-get_or, slice_get_past as nth_past}
 use Rattle.std.proofs.lemmas.Bool.{cond-true, cond-false, cases_lt}
-use Rattle.rules.specs.Module.{Record, Item}
+use Rattle.rules.specs.Module.{Record}
 use Rattle.draft.specs.State.{State, start, step, state, item_of}
 use Rattle.draft.specs.Admitted.{Accepted}
 use Rattle.draft.proofs.Stepping.{counted_so}
@@ -15,7 +15,7 @@ use Rattle.arena.specs.declared.slot.Slot.{Slot}
 use Rattle.arena.specs.Memory.{Holds, layout, slot_of}
 use Rattle.arena.proofs.Placing.{kept_is}
 use Rattle.arena.proofs.Scanning.{nth_slot}
-use Rattle.arena.proofs.Finding.{state_more, accepted_here}
+use Rattle.arena.proofs.Finding.{state_more}
 use Rattle.items.specs.declared.section.Section.{Section}
 use Rattle.items.specs.Sections.{chosen, selects}
 use Rattle.items.specs.Between.{EntryAt, item_at, gained, items_between}

@@ -1,11 +1,11 @@
 -- The tests that are left, place by place.
-use Rattle.std.proofs.Common.{◌≡◌, ℕ, zero, suc, ◌+◌, ◌<◌, ◌≤◌, Bool, true, false, cond, List, [], ◌∷◌, ◌++◌, length, take, drop, Some, None, Option, sym, refl, ap, ◌∙◌, subst, append_assoc, append-nil, add-one, arith}
-use Rattle.std.specs.List.{slice_get, flat_map}
+use Rattle.std.proofs.Common.{◌≡◌, ℕ, suc, ◌+◌, ◌<◌, ◌≤◌, true, false, List, [], ◌∷◌, ◌++◌, length, Some, None, sym, refl, ap, ◌∙◌, arith}
+use Rattle.std.specs.List.{flat_map}
 use Rattle.rules.specs.declared.faults.Fault.{Fault}
 use Rattle.rules.specs.Module.{Record, Item}
 use Rattle.rules.specs.Fault.{Test, first, numbered_from, numbered}
 use Rattle.rules.proofs.Firsts.{passed, stopped}
-use Rattle.draft.specs.State.{state, start}
+use Rattle.draft.specs.State.{start}
 use Rattle.draft.specs.Admitted.{Accepted}
 use Rattle.arena.specs.declared.slot.Slot.{Slot}
 use Rattle.items.specs.declared.section.Section.{Section}

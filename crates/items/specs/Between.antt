@@ -1,5 +1,5 @@
 -- The items that the records from one place up to another make.
-use Rattle.std.specs.Prelude.{◌≡◌, ℕ, Bool, cond, List, [], ◌∷◌, take, drop, Some}
+use Rattle.std.specs.Prelude.{◌≡◌, ℕ, cond, List, [], ◌∷◌, take, drop, Some}
 use Rattle.std.specs.List.{slice_get}
 use Rattle.rules.specs.Module.{Record, Item}
 use Rattle.draft.specs.State.{State, step, state, item_of}

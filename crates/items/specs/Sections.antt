@@ -1,5 +1,5 @@
 -- Which records make the items of a list of a module or a body.
-use Rattle.std.specs.Prelude.{ℕ, Bool, false, List, [], ◌∷◌}
+use Rattle.std.specs.Prelude.{ℕ, Bool, false, [], ◌∷◌}
 use Rattle.ir.specs.Number.{within}
 use Rattle.records.specs.Record.{judged}
 use Rattle.rules.specs.Module.{Record}

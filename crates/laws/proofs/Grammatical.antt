@@ -6,8 +6,6 @@ use Rattle.std.proofs.ByRecursion.{All-push}
 use Rattle.ir.specs.declared.kinds.Kind.{Kind}
 use Rattle.ir.specs.declared.kinds.Kind.TheVariants as kind
 use Rattle.ir.specs.declared.kinds.Expression.{Expression}
-use Rattle.ir.specs.declared.kinds.Statement.{Statement}
-use Rattle.ir.specs.declared.kinds.Statement.TheVariants as statement
 use Rattle.ir.specs.Number.{number_of}
 use Rattle.records.specs.Record.{judged}
 use Rattle.draft.specs.declared.state.Open.{Open}
@@ -16,8 +14,8 @@ use Rattle.draft.specs.declared.state.Bracket.{Bracket}
 use Rattle.draft.specs.declared.state.Bracket.TheVariants as bracket
 use Rattle.draft.specs.declared.manner.Side.TheVariants as side
 use Rattle.draft.specs.declared.manner.Motion.TheVariants as motion
-use Rattle.draft.specs.Manner.{manner_of, turn_of, statement_motion}
-use Rattle.draft.specs.State.{State, start, stepped, state, innermost, turned, open_after, on_side, meets, item_of, module_after, body_after}
+use Rattle.draft.specs.Manner.{manner_of, turn_of}
+use Rattle.draft.specs.State.{State, start, stepped, state, innermost, turned, on_side, meets, item_of, module_after, body_after}
 use Rattle.draft.specs.Admitted.{Accepted}
 use Rattle.draft.proofs.Tallying.{statement_stays}
 use Rattle.draft.proofs.Stepping.{Admits, throughout}

@@ -5,15 +5,13 @@ use Rattle.std.specs.List.{ContainsAt as Has, AllByRecursion}
 use Rattle.std.proofs.ByRecursion.{has_append_left, has_push}
 use Rattle.ir.specs.declared.kinds.Kind.{Kind}
 use Rattle.ir.specs.declared.kinds.Kind.TheVariants as kind
-use Rattle.ir.specs.declared.kinds.Statement.{Statement}
-use Rattle.ir.specs.declared.kinds.Statement.TheVariants as statement
 use Rattle.ir.specs.Number.{number_of}
 use Rattle.draft.specs.declared.state.Open.{Open}
 use Rattle.draft.specs.declared.state.Open.TheVariants as open_body
 use Rattle.draft.specs.declared.state.Waits.{Waits}
 use Rattle.draft.specs.declared.state.Waits.TheVariants as waits
 use Rattle.draft.specs.declared.manner.Side.TheVariants as side
-use Rattle.draft.specs.Manner.{manner_of, statement_motion}
+use Rattle.draft.specs.Manner.{manner_of}
 use Rattle.rules.specs.Module.{Item, Body, Module, nobody, opened_by, add_type, add_override, add_constant, add_global, set_special, add_predeclared, add_filter, set_leaf, add_expression, add_function, add_entry, add_argument, set_result, add_local, add_named, add_inner, add_statement, closed}
 use Rattle.draft.specs.State.{on_side, open_after, module_after, body_after}
 use Rattle.laws.specs.Decoded.{Entry, numbered_from, entries_of_any, Later, Starts}

@@ -2,7 +2,7 @@
 use Rattle.std.specs.Prelude.{◌≡◌, ℕ, Bool, true, ◌||◌, List, [], ◌∷◌, ◌++◌, ◌==◌}
 use Rattle.std.specs.List.{flat_map, AllByRecursion}
 use Rattle.ir.specs.Number.{within}
-use Rattle.rules.specs.Module.{Record, Item, Body}
+use Rattle.rules.specs.Module.{Record, Item}
 use Rattle.draft.specs.State.{state}
 
 -- a statement that opens no bracket

@@ -1,5 +1,5 @@
 -- One step of a count of handles.
-use Rattle.std.proofs.Common.{◌≡◌, ℕ, zero, suc, ◌+◌, ◌-◌, ◌*◌, ◌<◌, ◌≤◌, List, [], ◌∷◌, ◌++◌, length, get_or, take, drop, Some, None, sym, refl, ap, ◌∙◌, one-add, arith, length-append, length-drop}
+use Rattle.std.proofs.Common.{◌≡◌, ℕ, ◌+◌, ◌-◌, ◌<◌, ◌≤◌, List, [], ◌∷◌, length, get_or, take, drop, Some, None, refl, arith, length-append, length-drop}
 use Rattle.std.specs.List.{slice_get}
 use Rattle.ir.specs.declared.handle.Handle.{Handle}
 use Rattle.ir.specs.declared.fields.Word.{Word}

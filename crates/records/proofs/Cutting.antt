@@ -1,13 +1,13 @@
 -- One part of an image and what is left.
-use Rattle.std.proofs.Common.{◌≡◌, ℕ, zero, suc, ◌+◌, ◌<◌, ◌≤◌, min, true, false, cond, eqb, List, [], ◌∷◌, ◌++◌, length, take, drop, is_ok, Some, None, Option, sym, refl, ap, ◌∙◌, inl, inr, one-add, arith, length-drop, take-append-drop, length-take}
-use native.Mathlib.Nat.{min-eq_left, min-eq_right, min-le_right}
+use Rattle.std.proofs.Common.{◌≡◌, ℕ, zero, suc, ◌<◌, ◌≤◌, min, false, List, [], ◌∷◌, ◌++◌, length, take, drop, is_ok, Some, None, Option, sym, refl, ap, ◌∙◌, inl, inr, one-add, arith, length-drop, take-append-drop, length-take}
+use native.Mathlib.Nat.{min-eq_left, min-eq_right}
 use Rattle.std.proofs.lemmas.Bool.{cases_lt, eq-eqb, both_ways}
 use Rattle.std.proofs.lemmas.List.{drop_all}
 use Rattle.std.specs.List.{flat_map}
 use Rattle.ir.specs.declared.kinds.Kind.{Kind}
 use Rattle.ir.specs.Layout.{layout, size_of}
 use Rattle.ir.specs.Number.{kind_of}
-use Rattle.records.specs.Record.{body_of, parts_of}
+use Rattle.records.specs.Record.{body_of}
 use Rattle.records.specs.Image.{body_size, front_size, split_in, split, Cut}
 
 left_after : (byte : ℕ) (body : List ℕ) → length (drop (front_size (byte ∷ body)) (byte ∷ body)) ≤ length body

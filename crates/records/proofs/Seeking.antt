@@ -1,5 +1,5 @@
 -- One step of a search for a handle.
-use Rattle.std.proofs.Common.{◌≡◌, ℕ, zero, suc, ◌-◌, ◌<◌, ◌≤◌, List, [], ◌∷◌, ◌++◌, length, get_or, take, drop, Some, None, Option, sym, refl, ap, ◌∙◌, arith}
+use Rattle.std.proofs.Common.{◌≡◌, ℕ, zero, suc, ◌-◌, ◌<◌, List, [], ◌∷◌, ◌++◌, length, get_or, take, drop, Some, None, refl, ap, ◌∙◌, arith}
 use Rattle.std.specs.List.{slice_get}
 use Rattle.ir.specs.declared.handle.Handle.{Handle}
 use Rattle.ir.specs.declared.fields.Word.{Word}
@@ -9,7 +9,7 @@ use Rattle.records.specs.declared.handles.Sought.TheVariants.{Found, Past}
 use Rattle.ir.specs.Field.{cases_of, width_of, handle_in}
 use Rattle.ir.specs.declared.fields.Cases.{Cases}
 use Rattle.ir.specs.declared.fields.Field.TheVariants.{Case}
-use Rattle.records.specs.Handles.{words_handles, field_handles, fields_handles, handles_of, sought}
+use Rattle.records.specs.Handles.{words_handles, field_handles, fields_handles, sought}
 use Rattle.records.specs.Record.{number}
 use Rattle.records.proofs.Slices.{rest_is}
 

@@ -1,5 +1,5 @@
 -- The second field before the first.
-use Rattle.std.proofs.Common.{◌≡◌, ℕ, ◌+◌, ◌-◌, ◌<◌, ◌≤◌, Bool, true, false, List, [], ◌∷◌, ◌++◌, length, get_or, take, drop, Some, Ok, Err, Option, Result, sym, refl, ap, ◌∙◌, arith, length-drop}
+use Rattle.std.proofs.Common.{◌≡◌, ℕ, ◌-◌, ◌≤◌, Bool, true, false, List, [], ◌∷◌, ◌++◌, length, get_or, take, drop, Some, Ok, Err, Option, Result, refl, ◌∙◌, arith, length-drop}
 use Rattle.std.specs.List.{slice_get}
 use Rattle.std.specs.List.Sorted.{IsPermutation}
 use Rattle.std.proofs.lemmas.List.Sorted.{IsPermutation-refl, IsPermutation-cons, IsPermutation-swap, IsPermutation-trans}
@@ -11,7 +11,6 @@ use Rattle.ir.specs.Layout.{layout, size_of}
 use Rattle.ir.specs.Number.{second_first}
 use Rattle.records.specs.declared.judge.Flaw.{Flaw}
 use Rattle.records.specs.Record.{parts_of}
-use Rattle.records.specs.declared.handles.Sought.{Sought}
 use Rattle.records.specs.declared.handles.Sought.TheVariants.{Found, Past}
 use Rattle.records.specs.Handles.{field_handles, fields_handles, fields_tested, parts_handles, handles_of, parts_tested, tested_of, sought}
 use Rattle.records.proofs.Seeking.{found_first, past_first}

@@ -1,10 +1,10 @@
 -- check: the tests of a module, in order.
-use Rattle.std.specs.Prelude.{ℕ, suc, Bool, true, false, cond, not, ◌&&◌, ◌||◌, List, [], ◌∷◌, ◌++◌, map, length, take, drop, Some, None, filter, Option}
+use Rattle.std.specs.Prelude.{ℕ, suc, cond, List, [], ◌∷◌, ◌++◌, map, length, take, drop, Some, None, filter, Option}
 use Rattle.std.specs.List.{flat_map}
 use Rattle.ir.specs.declared.handle.Table.TheVariants as table
 use Rattle.ir.specs.declared.handle.Handle.{Handle}
 use Rattle.ir.specs.declared.handle.Handle.TheVariants as handle
-use Rattle.ir.specs.Handle.{named, index_of}
+use Rattle.ir.specs.Handle.{named}
 use Rattle.records.specs.Handles.{handles_of, tested_of}
 use Rattle.records.specs.Record.{number}
 use Rattle.rules.specs.declared.faults.Fault.{Fault}

@@ -1,5 +1,5 @@
 -- The kinds of record that the rules name, by their numbers.
-use Rattle.std.specs.Prelude.{ℕ, Bool, false, ◌||◌, List, [], ◌∷◌, ◌==◌}
+use Rattle.std.specs.Prelude.{ℕ, Bool, false, ◌||◌, [], ◌∷◌, ◌==◌}
 use Rattle.rules.specs.Module.{Record, Item}
 
 -- expressions

@@ -1,4 +1,4 @@
-use Rattle.std.proofs.Common.{string_bytes, fold, sym, ap, ◌∙◌, arith, take_all, rules}
+use Rattle.std.proofs.Common.{string_bytes, fold, ap, ◌∙◌, arith, take_all}
 use Rattle.std.proofs.lemmas.List.Sums.{fold_more}
 use Rattle.command.specs.declared.Progress.TheVariants.{Empty}
 use Rattle.command.specs.Command.{next_of, finished}

@@ -1,4 +1,4 @@
-use Rattle.std.proofs.Common.{◌≡◌, take, Some, fold, sym, ap, ◌∙◌, arith, take_all}
+use Rattle.std.proofs.Common.{Some, fold, sym, ap, ◌∙◌, arith, take_all}
 use Rattle.std.proofs.lemmas.List.Sums.{fold_more}
 use Rattle.command.specs.Command.{digit_more, number_in}
 use Rattle.command.proofs.Reading.{number_some}

@@ -1,9 +1,9 @@
-use Rattle.std.proofs.Common.{◌≡◌, ◌+◌, ◌<◌, ◌≤◌, true, ◌++◌, length, take, sym, ap, ◌∙◌, subst, arith, rules}
+use Rattle.std.proofs.Common.{◌≡◌, ◌+◌, ◌<◌, ◌≤◌, ◌++◌, length, take, sym, ap, ◌∙◌, arith, rules}
 use Rattle.std.proofs.lemmas.Slice.{take-put_mid}
 use Rattle.draft.specs.State.{table_in}
 use Rattle.draft.specs.Manner.{turn_of}
 use Rattle.draft.specs.Counting.{counted, advanced, top}
-use Rattle.arena.proofs.Placing.{used_within, kept_within, depth_within}
+use Rattle.arena.proofs.Placing.{used_within, depth_within}
 use Rattle.arena.proofs.Putting.{room_parts, waiting_kept, turns_now, appended, refused}
 use Rattle.arena.proofs.Draft.append.Goals as goal
 

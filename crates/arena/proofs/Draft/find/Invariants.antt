@@ -1,4 +1,4 @@
-use Rattle.std.proofs.Common.{◌≡◌, ◌≤◌}
+use Rattle.std.proofs.Common.{◌≡◌}
 use Rattle.draft.specs.State.{state, item_of}
 use Rattle.arena.specs.Put.{known}
 use Rattle.arena.specs.Memory.{read_off}

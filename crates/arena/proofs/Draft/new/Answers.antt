@@ -1,5 +1,4 @@
 use Rattle.std.proofs.Common.{◌≡◌, [], sym, subst}
-use Rattle.draft.specs.State.{start}
 use Rattle.arena.specs.Memory.{Standing, read_off}
 use Rattle.arena.proofs.Placing.{holds_none, stands_now, records_are}
 use Rattle.arena.proofs.Draft.new.Goals as goal

@@ -1,4 +1,4 @@
-use Rattle.std.proofs.Common.{◌≡◌, is_ok, Ok, Err, sym, ap, ◌∙◌}
+use Rattle.std.proofs.Common.{is_ok, Ok, sym, ap, ◌∙◌}
 use Rattle.std.proofs.lemmas.Result.{err_from_is_err_and}
 use Rattle.draft.specs.State.{state}
 use Rattle.arena.specs.Memory.{read_off}

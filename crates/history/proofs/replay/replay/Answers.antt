@@ -1,8 +1,8 @@
-use Rattle.std.proofs.Common.{◌≡◌, ◌<◌, min, [], ◌++◌, map, length, take, drop, ap, ◌∙◌, arith}
+use Rattle.std.proofs.Common.{◌≡◌, ◌<◌, [], ◌++◌, map, length, take, drop, ap, ◌∙◌, arith}
 use native.Mathlib.Nat.{min-le_left, min-le_right}
 use Rattle.arena.specs.Memory.{records}
 use Rattle.history.specs.Calls.{record_of, outcomes, made, put_by}
-use Rattle.history.specs.Runs.{run, NumbersStay}
+use Rattle.history.specs.Runs.{run}
 use Rattle.history.proofs.Replaying.{run_more, answers_more, still_named, one_number_in}
 use Rattle.history.proofs.Staying.{numbers_stay}
 use Rattle.history.proofs.replay.replay.Goals as goal

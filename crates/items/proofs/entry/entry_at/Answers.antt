@@ -1,10 +1,8 @@
-use Rattle.std.proofs.Common.{◌≡◌, ℕ, ◌<◌, [], length, get_or, take, Some, None, Option, sym, ap, subst, ◌∙◌, arith}
-use Rattle.std.specs.List.{slice_get}
+use Rattle.std.proofs.Common.{◌≡◌, ℕ, [], take, Some, Option, subst, ◌∙◌, arith}
 use Rattle.std.proofs.lemmas.Option.{slice_get-get_or}
 use Rattle.draft.specs.State.{state}
-use Rattle.arena.specs.Memory.{layout, slot_of}
+use Rattle.arena.specs.Memory.{slot_of}
 use Rattle.arena.specs.Viewing.{viewed}
-use Rattle.arena.proofs.Placing.{kept_is}
 use Rattle.items.proofs.Between.{slot_there, here_is}
 use Rattle.items.proofs.entry.entry_at.Goals as goal
 

@@ -1,4 +1,4 @@
-use Rattle.std.proofs.Common.{arith, rules}
+use Rattle.std.proofs.Common.{arith}
 use Rattle.records.proofs.Counting.{case_count}
 use Rattle.records.proofs.handles.count_field.Goals as goal
 

@@ -1,4 +1,3 @@
-use Rattle.std.proofs.Common.{◌∙◌}
 use Rattle.records.proofs.Slices.{rest_is}
 use Rattle.records.proofs.judge.field_fits.Goals as goal
 

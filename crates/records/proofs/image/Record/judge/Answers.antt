@@ -1,4 +1,4 @@
-use Rattle.std.proofs.Common.{ap, arith, rules}
+use Rattle.std.proofs.Common.{ap, arith}
 use Rattle.ir.specs.Layout.{size_of}
 use Rattle.records.proofs.image.Record.judge.Goals as goal
 

@@ -1,4 +1,3 @@
-use Rattle.std.proofs.Common.{rules}
 use Rattle.records.proofs.Swapping.{same_handles, tested_at}
 use Rattle.records.proofs.image.Record.tested_handle.Goals as goal
 
