@@ -9,8 +9,8 @@ use Rattle.ir.specs.declared.kinds.Kind.{Kind}
 use Rattle.ir.specs.declared.kinds.Kind.TheVariants as kind
 use Rattle.records.specs.Record.{judged}
 use Rattle.draft.specs.Admitted.{Accepted, admitted, image}
-use Rattle.draft.specs.declared.state.Open.{Open}
-use Rattle.draft.specs.declared.state.Open.TheVariants as open_body
+use Rattle.draft.specs.declared.state.BodyKind.{BodyKind}
+use Rattle.draft.specs.declared.state.BodyKind.TheVariants as body_kind
 use Rattle.draft.specs.declared.state.SlotTable.{SlotTable}
 use Rattle.draft.specs.declared.state.SlotTable.TheVariants as table
 use Rattle.arena.specs.declared.slot.Slot.{Slot}
@@ -83,7 +83,7 @@ gathered_none table.EntryPoints ws r n = refl
 gathered_none table.LocalVariables ws r n = refl
 gathered_none table.LocalExpressions ws r n = refl
 
-types_at : (k : Kind) (o : Open) (b : Body) (i : Item) (m : Module) → (module_after k o b i m).types ≡ m.types ++ own (table_in o (manner_of k).table) i
+types_at : (k : Kind) (o : Option BodyKind) (b : Body) (i : Item) (m : Module) → (module_after k o b i m).types ≡ m.types ++ own (table_in o (manner_of k).table) i
 types_at kind.Member o b i m = sym (append-nil m.types)
 types_at kind.Operand o b i m = sym (append-nil m.types)
 types_at kind.Override o b i m = sym (append-nil m.types)
@@ -100,19 +100,19 @@ types_at kind.FunctionResult o b i m = sym (append-nil m.types)
 types_at kind.LocalVariable o b i m = sym (append-nil m.types)
 types_at (kind.Type t) o b i m = refl
 types_at kind.Named o b i m = sym (append-nil m.types)
-types_at kind.EndFunction open_body.Nothing b i m = sym (append-nil m.types)
-types_at kind.EndFunction open_body.Function b i m = sym (append-nil m.types)
-types_at kind.EndFunction open_body.EntryPoint b i m = sym (append-nil m.types)
-types_at (kind.Expression e) open_body.Nothing b i m = sym (append-nil m.types)
-types_at (kind.Expression e) open_body.Function b i m = sym (append-nil m.types)
-types_at (kind.Expression e) open_body.EntryPoint b i m = sym (append-nil m.types)
+types_at kind.EndFunction None b i m = sym (append-nil m.types)
+types_at kind.EndFunction (Some body_kind.Function) b i m = sym (append-nil m.types)
+types_at kind.EndFunction (Some body_kind.EntryPoint) b i m = sym (append-nil m.types)
+types_at (kind.Expression e) None b i m = sym (append-nil m.types)
+types_at (kind.Expression e) (Some body_kind.Function) b i m = sym (append-nil m.types)
+types_at (kind.Expression e) (Some body_kind.EntryPoint) b i m = sym (append-nil m.types)
 types_at (kind.Statement c) o b i m = sym (append-nil m.types)
 types_at kind.End o b i m = sym (append-nil m.types)
 types_at kind.EndLoop o b i m = sym (append-nil m.types)
 types_at kind.Case o b i m = sym (append-nil m.types)
 types_at kind.EndSwitch o b i m = sym (append-nil m.types)
 
-waiting_at : (k : Kind) (o : Open) (ws : List Record) (r : Record) → waiting_after (manner_of k).joins ws r ≡ gathered (table_in o (manner_of k).table) ws r
+waiting_at : (k : Kind) (o : Option BodyKind) (ws : List Record) (r : Record) → waiting_after (manner_of k).joins ws r ≡ gathered (table_in o (manner_of k).table) ws r
 waiting_at kind.Member o ws r = refl
 waiting_at kind.Operand o ws r = refl
 waiting_at kind.Override o ws r = refl
@@ -130,9 +130,9 @@ waiting_at kind.LocalVariable o ws r = refl
 waiting_at (kind.Type t) o ws r = refl
 waiting_at kind.Named o ws r = refl
 waiting_at kind.EndFunction o ws r = refl
-waiting_at (kind.Expression e) open_body.Nothing ws r = refl
-waiting_at (kind.Expression e) open_body.Function ws r = refl
-waiting_at (kind.Expression e) open_body.EntryPoint ws r = refl
+waiting_at (kind.Expression e) None ws r = refl
+waiting_at (kind.Expression e) (Some body_kind.Function) ws r = refl
+waiting_at (kind.Expression e) (Some body_kind.EntryPoint) ws r = refl
 waiting_at (kind.Statement c) o ws r = refl
 waiting_at kind.End o ws r = refl
 waiting_at kind.EndLoop o ws r = refl

@@ -1,5 +1,5 @@
 -- One record more adds one item to its table, of the module or of a body, and leaves the others as they are.
-use Rattle.std.proofs.Common.{◌≡◌, ℕ, zero, suc, ◌+◌, Bool, true, false, cond, ◌&&◌, ◌||◌, eqb, List, [], ◌∷◌, ◌++◌, map, length, Some, sym, refl, ap, ◌∙◌, subst, arith}
+use Rattle.std.proofs.Common.{◌≡◌, ℕ, zero, suc, ◌+◌, Bool, true, false, cond, ◌&&◌, ◌||◌, eqb, List, [], ◌∷◌, ◌++◌, map, length, Some, sym, refl, ap, ◌∙◌, subst, arith, None, Option}
 use lib.Dec.{eqb-zero-suc, eqb-suc-zero, eqb-suc-suc}
 use Rattle.std.specs.List.{slice_get}
 use Rattle.std.proofs.lemmas.List.{map_push, length-map, length_push}
@@ -9,8 +9,8 @@ use Rattle.ir.specs.declared.handle.Table.TheVariants as handles
 use Rattle.ir.specs.declared.kinds.Kind.{Kind}
 use Rattle.ir.specs.declared.kinds.Kind.TheVariants as kind
 use Rattle.rules.specs.Module.{Record, Item, Body, Module, opened_by, closed}
-use Rattle.draft.specs.declared.state.Open.{Open}
-use Rattle.draft.specs.declared.state.Open.TheVariants as open_body
+use Rattle.draft.specs.declared.state.BodyKind.{BodyKind}
+use Rattle.draft.specs.declared.state.BodyKind.TheVariants as body_kind
 use Rattle.draft.specs.declared.state.SlotTable.{SlotTable}
 use Rattle.draft.specs.declared.state.SlotTable.TheVariants as table
 use Rattle.draft.specs.declared.manner.Side.TheVariants as side
@@ -83,15 +83,15 @@ grows_items handles.Filters u i b b' g = refl
 grows_items handles.EntryPoints u i b b' g = refl
 
 -- what it does to the bodies
-data Goes (u : SlotTable) (i : Item) (o : Open) (m : Module) (b : Body) (o' : Open) (m' : Module) (b' : Body) : Type 0 where
-  stays : opens u ≡ open_body.Nothing → o' ≡ o → m'.functions ≡ m.functions → m'.entries ≡ m.entries → Grows u i b b' → (o ≡ open_body.Nothing → local u ≡ false) → Goes u i o m b o' m' b'
-  begins : local u ≡ false → o ≡ open_body.Nothing → o' ≡ opens u → m'.functions ≡ m.functions → m'.entries ≡ m.entries → b' ≡ opened_by i → Goes u i o m b o' m' b'
-  ends : local u ≡ false → opens u ≡ open_body.Nothing → o' ≡ open_body.Nothing → (c : Body) → Grows u i b c → m'.functions ≡ functions_now o m c → m'.entries ≡ entries_now o m c → Goes u i o m b o' m' b'
+data Goes (u : SlotTable) (i : Item) (o : Option BodyKind) (m : Module) (b : Body) (o' : Option BodyKind) (m' : Module) (b' : Body) : Type 0 where
+  stays : opens u ≡ None → o' ≡ o → m'.functions ≡ m.functions → m'.entries ≡ m.entries → Grows u i b b' → (o ≡ None → local u ≡ false) → Goes u i o m b o' m' b'
+  begins : local u ≡ false → o ≡ None → o' ≡ opens u → m'.functions ≡ m.functions → m'.entries ≡ m.entries → b' ≡ opened_by i → Goes u i o m b o' m' b'
+  ends : local u ≡ false → opens u ≡ None → o' ≡ None → (c : Body) → Grows u i b c → m'.functions ≡ functions_now o m c → m'.entries ≡ entries_now o m c → Goes u i o m b o' m' b'
 
-outside_only : (o : Open) → on_side o side.Outside ≡ true → o ≡ open_body.Nothing
-outside_only open_body.Nothing h = refl
-outside_only open_body.Function h = let z : ◌≡◌ {A = ℕ} 0 1 = cc in absurd (omega arith)
-outside_only open_body.EntryPoint h = let z : ◌≡◌ {A = ℕ} 0 1 = cc in absurd (omega arith)
+outside_only : (o : Option BodyKind) → on_side o side.Outside ≡ true → o ≡ None
+outside_only None h = refl
+outside_only (Some body_kind.Function) h = let z : ◌≡◌ {A = ℕ} 0 1 = cc in absurd (omega arith)
+outside_only (Some body_kind.EntryPoint) h = let z : ◌≡◌ {A = ℕ} 0 1 = cc in absurd (omega arith)
 
 -- the tables of a module that have items and not bodies
 abbrev Tables : Type 0
@@ -104,7 +104,7 @@ abbrev tables_grown : SlotTable → Item → Tables → Tables
 tables_grown u i p = (grown (same_table table.Types u) p.0 i, grown (same_table table.Overrides u) p.1 i, grown (same_table table.Constants u) p.2 i, grown (same_table table.GlobalVariables u) p.3 i, grown (same_table table.Filters u) p.4 i, grown (same_table table.Expressions u) p.5 i)
 
 module _ (m : Module) (b : Body) (i : Item) where
-  goes_at : (k : Kind) (o : Open) → on_side o (manner_of k).side ≡ true → Goes (table_in o (manner_of k).table) i o m b (open_after (manner_of k).motion o) (module_after k o b i m) (body_after k o i b)
+  goes_at : (k : Kind) (o : Option BodyKind) → on_side o (manner_of k).side ≡ true → Goes (table_in o (manner_of k).table) i o m b (open_after (manner_of k).motion o) (module_after k o b i m) (body_after k o i b)
   goes_at kind.Member o h = stays refl refl refl refl (record { opener = refl; locals = refl; expressions = refl }) (λ e. refl)
   goes_at kind.Operand o h = stays refl refl refl refl (record { opener = refl; locals = refl; expressions = refl }) (λ e. refl)
   goes_at kind.Override o h = stays refl refl refl refl (record { opener = refl; locals = refl; expressions = refl }) (λ e. refl)
@@ -118,24 +118,24 @@ module _ (m : Module) (b : Body) (i : Item) where
   goes_at kind.EntryPoint o h = begins refl (outside_only o h) refl refl refl refl
   goes_at kind.FunctionArgument o h = stays refl refl refl refl (record { opener = refl; locals = refl; expressions = refl }) (λ e. refl)
   goes_at kind.FunctionResult o h = stays refl refl refl refl (record { opener = refl; locals = refl; expressions = refl }) (λ e. refl)
-  goes_at kind.LocalVariable open_body.Nothing h = let z : ◌≡◌ {A = ℕ} 0 1 = cc in absurd (omega arith)
-  goes_at kind.LocalVariable open_body.Function h = stays refl refl refl refl (record { opener = refl; locals = refl; expressions = refl }) (λ e. let z : ◌≡◌ {A = ℕ} 0 1 = cc in absurd (omega arith))
-  goes_at kind.LocalVariable open_body.EntryPoint h = stays refl refl refl refl (record { opener = refl; locals = refl; expressions = refl }) (λ e. let z : ◌≡◌ {A = ℕ} 0 1 = cc in absurd (omega arith))
+  goes_at kind.LocalVariable None h = let z : ◌≡◌ {A = ℕ} 0 1 = cc in absurd (omega arith)
+  goes_at kind.LocalVariable (Some body_kind.Function) h = stays refl refl refl refl (record { opener = refl; locals = refl; expressions = refl }) (λ e. let z : ◌≡◌ {A = ℕ} 0 1 = cc in absurd (omega arith))
+  goes_at kind.LocalVariable (Some body_kind.EntryPoint) h = stays refl refl refl refl (record { opener = refl; locals = refl; expressions = refl }) (λ e. let z : ◌≡◌ {A = ℕ} 0 1 = cc in absurd (omega arith))
   goes_at (kind.Type t) o h = stays refl refl refl refl (record { opener = refl; locals = refl; expressions = refl }) (λ e. refl)
   goes_at kind.Named o h = stays refl refl refl refl (record { opener = refl; locals = refl; expressions = refl }) (λ e. refl)
-  goes_at kind.EndFunction open_body.Nothing h = let z : ◌≡◌ {A = ℕ} 0 1 = cc in absurd (omega arith)
-  goes_at kind.EndFunction open_body.Function h = ends refl refl refl (closed b i) (record { opener = refl; locals = refl; expressions = refl }) refl refl
-  goes_at kind.EndFunction open_body.EntryPoint h = ends refl refl refl (closed b i) (record { opener = refl; locals = refl; expressions = refl }) refl refl
-  goes_at (kind.Expression x) open_body.Nothing h = stays refl refl refl refl (record { opener = refl; locals = refl; expressions = refl }) (λ e. refl)
-  goes_at (kind.Expression x) open_body.Function h = stays refl refl refl refl (record { opener = refl; locals = refl; expressions = refl }) (λ e. let z : ◌≡◌ {A = ℕ} 0 1 = cc in absurd (omega arith))
-  goes_at (kind.Expression x) open_body.EntryPoint h = stays refl refl refl refl (record { opener = refl; locals = refl; expressions = refl }) (λ e. let z : ◌≡◌ {A = ℕ} 0 1 = cc in absurd (omega arith))
+  goes_at kind.EndFunction None h = let z : ◌≡◌ {A = ℕ} 0 1 = cc in absurd (omega arith)
+  goes_at kind.EndFunction (Some body_kind.Function) h = ends refl refl refl (closed b i) (record { opener = refl; locals = refl; expressions = refl }) refl refl
+  goes_at kind.EndFunction (Some body_kind.EntryPoint) h = ends refl refl refl (closed b i) (record { opener = refl; locals = refl; expressions = refl }) refl refl
+  goes_at (kind.Expression x) None h = stays refl refl refl refl (record { opener = refl; locals = refl; expressions = refl }) (λ e. refl)
+  goes_at (kind.Expression x) (Some body_kind.Function) h = stays refl refl refl refl (record { opener = refl; locals = refl; expressions = refl }) (λ e. let z : ◌≡◌ {A = ℕ} 0 1 = cc in absurd (omega arith))
+  goes_at (kind.Expression x) (Some body_kind.EntryPoint) h = stays refl refl refl refl (record { opener = refl; locals = refl; expressions = refl }) (λ e. let z : ◌≡◌ {A = ℕ} 0 1 = cc in absurd (omega arith))
   goes_at (kind.Statement x) o h = stays refl (statement_stays x o) refl refl (record { opener = refl; locals = refl; expressions = refl }) (λ e. refl)
   goes_at kind.End o h = stays refl refl refl refl (record { opener = refl; locals = refl; expressions = refl }) (λ e. refl)
   goes_at kind.EndLoop o h = stays refl refl refl refl (record { opener = refl; locals = refl; expressions = refl }) (λ e. refl)
   goes_at kind.Case o h = stays refl refl refl refl (record { opener = refl; locals = refl; expressions = refl }) (λ e. refl)
   goes_at kind.EndSwitch o h = stays refl refl refl refl (record { opener = refl; locals = refl; expressions = refl }) (λ e. refl)
 
-  tables_at : (k : Kind) (o : Open) → tables_of (module_after k o b i m) ≡ tables_grown (table_in o (manner_of k).table) i (tables_of m)
+  tables_at : (k : Kind) (o : Option BodyKind) → tables_of (module_after k o b i m) ≡ tables_grown (table_in o (manner_of k).table) i (tables_of m)
   tables_at kind.Member o = refl
   tables_at kind.Operand o = refl
   tables_at kind.Override o = refl
@@ -152,12 +152,12 @@ module _ (m : Module) (b : Body) (i : Item) where
   tables_at kind.LocalVariable o = refl
   tables_at (kind.Type t) o = refl
   tables_at kind.Named o = refl
-  tables_at kind.EndFunction open_body.Nothing = refl
-  tables_at kind.EndFunction open_body.Function = refl
-  tables_at kind.EndFunction open_body.EntryPoint = refl
-  tables_at (kind.Expression x) open_body.Nothing = refl
-  tables_at (kind.Expression x) open_body.Function = refl
-  tables_at (kind.Expression x) open_body.EntryPoint = refl
+  tables_at kind.EndFunction None = refl
+  tables_at kind.EndFunction (Some body_kind.Function) = refl
+  tables_at kind.EndFunction (Some body_kind.EntryPoint) = refl
+  tables_at (kind.Expression x) None = refl
+  tables_at (kind.Expression x) (Some body_kind.Function) = refl
+  tables_at (kind.Expression x) (Some body_kind.EntryPoint) = refl
   tables_at (kind.Statement x) o = refl
   tables_at kind.End o = refl
   tables_at kind.EndLoop o = refl
@@ -165,33 +165,33 @@ module _ (m : Module) (b : Body) (i : Item) where
   tables_at kind.EndSwitch o = refl
 
 -- the bodies of one kind, with the open one as the last if it is of that kind
-abbrev now_in : Open → List Body → Body → List Body
-now_in open_body.Nothing xs b = xs
-now_in open_body.Function xs b = xs ++ b ∷ []
-now_in open_body.EntryPoint xs b = xs
+abbrev now_in : Option BodyKind → List Body → Body → List Body
+now_in None xs b = xs
+now_in (Some body_kind.Function) xs b = xs ++ b ∷ []
+now_in (Some body_kind.EntryPoint) xs b = xs
 
-functions_are : (o : Open) (m : Module) (b : Body) → functions_now o m b ≡ now_in o m.functions b
-functions_are open_body.Nothing m b = refl
-functions_are open_body.Function m b = refl
-functions_are open_body.EntryPoint m b = refl
+functions_are : (o : Option BodyKind) (m : Module) (b : Body) → functions_now o m b ≡ now_in o m.functions b
+functions_are None m b = refl
+functions_are (Some body_kind.Function) m b = refl
+functions_are (Some body_kind.EntryPoint) m b = refl
 
-entries_are : (o : Open) (m : Module) (b : Body) → entries_now o m b ≡ now_in (other o) m.entries b
-entries_are open_body.Nothing m b = refl
-entries_are open_body.Function m b = refl
-entries_are open_body.EntryPoint m b = refl
+entries_are : (o : Option BodyKind) (m : Module) (b : Body) → entries_now o m b ≡ now_in (other o) m.entries b
+entries_are None m b = refl
+entries_are (Some body_kind.Function) m b = refl
+entries_are (Some body_kind.EntryPoint) m b = refl
 
-other_twice : (o : Open) → other (other o) ≡ o
-other_twice open_body.Nothing = refl
-other_twice open_body.Function = refl
-other_twice open_body.EntryPoint = refl
+other_twice : (o : Option BodyKind) → other (other o) ≡ o
+other_twice None = refl
+other_twice (Some body_kind.Function) = refl
+other_twice (Some body_kind.EntryPoint) = refl
 
 -- what a record does to the bodies of one kind
-data Turns (u : SlotTable) (i : Item) (opened o : Open) (xs : List Body) (b : Body) (o' : Open) (xs' : List Body) (b' : Body) : Type 0 where
-  stays : opened ≡ open_body.Nothing → o' ≡ o → xs' ≡ xs → Grows u i b b' → (o ≡ open_body.Nothing → local u ≡ false) → Turns u i opened o xs b o' xs' b'
-  begins : local u ≡ false → o ≡ open_body.Nothing → o' ≡ opened → xs' ≡ xs → b' ≡ opened_by i → Turns u i opened o xs b o' xs' b'
-  ends : local u ≡ false → opened ≡ open_body.Nothing → o' ≡ open_body.Nothing → (c : Body) → Grows u i b c → xs' ≡ now_in o xs c → Turns u i opened o xs b o' xs' b'
+data Turns (u : SlotTable) (i : Item) (opened o : Option BodyKind) (xs : List Body) (b : Body) (o' : Option BodyKind) (xs' : List Body) (b' : Body) : Type 0 where
+  stays : opened ≡ None → o' ≡ o → xs' ≡ xs → Grows u i b b' → (o ≡ None → local u ≡ false) → Turns u i opened o xs b o' xs' b'
+  begins : local u ≡ false → o ≡ None → o' ≡ opened → xs' ≡ xs → b' ≡ opened_by i → Turns u i opened o xs b o' xs' b'
+  ends : local u ≡ false → opened ≡ None → o' ≡ None → (c : Body) → Grows u i b c → xs' ≡ now_in o xs c → Turns u i opened o xs b o' xs' b'
 
-module _ (u : SlotTable) (i : Item) (o : Open) (m : Module) (b : Body) (o' : Open) (m' : Module) (b' : Body) where
+module _ (u : SlotTable) (i : Item) (o : Option BodyKind) (m : Module) (b : Body) (o' : Option BodyKind) (m' : Module) (b' : Body) where
   function_turns : Goes u i o m b o' m' b' → Turns u i (opens u) o m.functions b o' m'.functions b'
   function_turns (Goes.stays e p f g gr out) = Turns.stays e p f gr out
   function_turns (Goes.begins l n p f g q) = Turns.begins l n p f q
@@ -207,10 +207,10 @@ nth_last [] b = refl
 nth_last (x ∷ xs) b = nth_last xs b
 
 -- the flag of a scan for the body with the number n, among the bodies of one kind
-abbrev Flag : ℕ → Open → List Body → Bool → Type 0
-Flag n open_body.Nothing xs f = Unit {0}
-Flag n open_body.Function xs f = f ≡ eqb (length xs) n
-Flag n open_body.EntryPoint xs f = f ≡ false
+abbrev Flag : ℕ → Option BodyKind → List Body → Bool → Type 0
+Flag n None xs f = Unit {0}
+Flag n (Some body_kind.Function) xs f = f ≡ eqb (length xs) n
+Flag n (Some body_kind.EntryPoint) xs f = f ≡ false
 
 module _ (t : Table) (u : SlotTable) (i : Item) where
   abbrev hit : Bool
@@ -222,10 +222,10 @@ module _ (t : Table) (u : SlotTable) (i : Item) where
   last_grows (x ∷ xs) b b' zero g = unchanged _ _ i (and_left _ _ (eqb-suc-zero (length xs)))
   last_grows (x ∷ xs) b b' (suc n) g = last_grows xs b b' n g ∙ ap (λ y. grown (y && hit) (body_items t (slice_get (xs ++ b ∷ []) n)) i) (sym (eqb-suc-suc (length xs) n))
 
-  stay_items : (n : ℕ) (o : Open) (xs : List Body) (b b' : Body) (f : Bool) → Flag n o xs f → Grows u i b b' → (o ≡ open_body.Nothing → local u ≡ false) → body_items t (slice_get (now_in o xs b') n) ≡ grown (f && hit) (body_items t (slice_get (now_in o xs b) n)) i
-  stay_items n open_body.Nothing xs b b' f flag g out = unchanged _ _ i (and_right f hit (not_among t u (out refl)))
-  stay_items n open_body.Function xs b b' f flag g out = last_grows xs b b' n g ∙ ap (λ y. grown (y && hit) (body_items t (slice_get (xs ++ b ∷ []) n)) i) (sym flag)
-  stay_items n open_body.EntryPoint xs b b' f flag g out = unchanged _ _ i (and_left f hit flag)
+  stay_items : (n : ℕ) (o : Option BodyKind) (xs : List Body) (b b' : Body) (f : Bool) → Flag n o xs f → Grows u i b b' → (o ≡ None → local u ≡ false) → body_items t (slice_get (now_in o xs b') n) ≡ grown (f && hit) (body_items t (slice_get (now_in o xs b) n)) i
+  stay_items n None xs b b' f flag g out = unchanged _ _ i (and_right f hit (not_among t u (out refl)))
+  stay_items n (Some body_kind.Function) xs b b' f flag g out = last_grows xs b b' n g ∙ ap (λ y. grown (y && hit) (body_items t (slice_get (xs ++ b ∷ []) n)) i) (sym flag)
+  stay_items n (Some body_kind.EntryPoint) xs b b' f flag g out = unchanged _ _ i (and_left f hit flag)
 
 empty_items : (t : Table) (i : Item) → body_items t (Some (opened_by i)) ≡ []
 empty_items handles.Types i = refl
@@ -244,17 +244,17 @@ opened_empty t i [] (suc n) = refl
 opened_empty t i (x ∷ xs) zero = refl
 opened_empty t i (x ∷ xs) (suc n) = opened_empty t i xs n
 
-begin_items : (t : Table) (i : Item) (n : ℕ) (opened : Open) (xs : List Body) → body_items t (slice_get (now_in opened xs (opened_by i)) n) ≡ body_items t (slice_get xs n)
-begin_items t i n open_body.Nothing xs = refl
-begin_items t i n open_body.Function xs = opened_empty t i xs n
-begin_items t i n open_body.EntryPoint xs = refl
+begin_items : (t : Table) (i : Item) (n : ℕ) (opened : Option BodyKind) (xs : List Body) → body_items t (slice_get (now_in opened xs (opened_by i)) n) ≡ body_items t (slice_get xs n)
+begin_items t i n None xs = refl
+begin_items t i n (Some body_kind.Function) xs = opened_empty t i xs n
+begin_items t i n (Some body_kind.EntryPoint) xs = refl
 
-begin_flag : (n k : ℕ) (f : Bool) (opened : Open) (xs : List Body) → (opened ≡ open_body.Function → k ≡ length xs) → Flag n opened xs (entered n f k opened)
-begin_flag n k f open_body.Nothing xs h = tt
-begin_flag n k f open_body.Function xs h = ap (λ y. eqb y n) (h refl)
-begin_flag n k f open_body.EntryPoint xs h = refl
+begin_flag : (n k : ℕ) (f : Bool) (opened : Option BodyKind) (xs : List Body) → (opened ≡ Some body_kind.Function → k ≡ length xs) → Flag n opened xs (entered n f k opened)
+begin_flag n k f None xs h = tt
+begin_flag n k f (Some body_kind.Function) xs h = ap (λ y. eqb y n) (h refl)
+begin_flag n k f (Some body_kind.EntryPoint) xs h = refl
 
-module _ (t : Table) (u : SlotTable) (i : Item) (n k : ℕ) (opened o : Open) (xs : List Body) (b : Body) (o' : Open) (xs' : List Body) (b' : Body) (f : Bool) (flag : Flag n o xs f) where
+module _ (t : Table) (u : SlotTable) (i : Item) (n k : ℕ) (opened o : Option BodyKind) (xs : List Body) (b : Body) (o' : Option BodyKind) (xs' : List Body) (b' : Body) (f : Bool) (flag : Flag n o xs f) where
   body_step : Turns u i opened o xs b o' xs' b' → body_items t (slice_get (now_in o' xs' b') n) ≡ grown (entered n f k opened && among (body_table t) u) (body_items t (slice_get (now_in o xs b) n)) i
   body_step (Turns.stays e p q g out) =
       ap (λ y. body_items t (slice_get (now_in y xs' b') n)) p
@@ -274,17 +274,17 @@ module _ (t : Table) (u : SlotTable) (i : Item) (n k : ℕ) (opened o : Open) (x
       ∙ stay_items t u i n o xs b c f flag g (λ z. l)
       ∙ ap (λ y. grown (entered n f k y && among (body_table t) u) (body_items t (slice_get (now_in o xs b) n)) i) (sym e)
 
-  flag_step : Turns u i opened o xs b o' xs' b' → (opened ≡ open_body.Function → k ≡ length xs + function_open o) → Flag n o' xs' (entered n f k opened)
+  flag_step : Turns u i opened o xs b o' xs' b' → (opened ≡ Some body_kind.Function → k ≡ length xs + function_open o) → Flag n o' xs' (entered n f k opened)
   flag_step (Turns.stays e p q g out) h = subst (λ y. Flag n o' xs' (entered n f k y)) (sym e) (subst (λ y. Flag n y xs' f) (sym p) (subst (λ y. Flag n o y f) (sym q) flag))
   flag_step (Turns.begins l z p q r) h =
-      let here : opened ≡ open_body.Function → k ≡ length xs = λ e. let a = h e in let w : function_open o ≡ 0 = ap function_open z in omega arith in
+      let here : opened ≡ Some body_kind.Function → k ≡ length xs = λ e. let a = h e in let w : function_open o ≡ 0 = ap function_open z in omega arith in
       subst (λ y. Flag n y xs' (entered n f k opened)) (sym p) (subst (λ y. Flag n opened y (entered n f k opened)) (sym q) (begin_flag n k f opened xs here))
   flag_step (Turns.ends l e p c g q) h = subst (λ y. Flag n y xs' (entered n f k opened)) (sym p) tt
 
-  stay_number : (a : Open) → Flag n a xs f → (a ≡ open_body.Nothing → local u ≡ false) → (among (body_table t) u ≡ true → k ≡ length (body_items t (Some b))) → f ≡ true → among (body_table t) u ≡ true → k ≡ length (body_items t (slice_get (now_in a xs b) n))
-  stay_number open_body.Nothing fl out num e w = let v = not_among t u (out refl) in let z : ◌≡◌ {A = ℕ} 0 1 = cc in absurd (omega arith)
-  stay_number open_body.Function fl out num e w = num w ∙ ap (λ y. length (body_items t y)) (sym (nth_last xs b)) ∙ ap (λ y. length (body_items t (slice_get (xs ++ b ∷ []) y))) (eqb-true (length xs) n (sym fl ∙ e))
-  stay_number open_body.EntryPoint fl out num e w = let z : ◌≡◌ {A = ℕ} 0 1 = cc in absurd (omega arith)
+  stay_number : (a : Option BodyKind) → Flag n a xs f → (a ≡ None → local u ≡ false) → (among (body_table t) u ≡ true → k ≡ length (body_items t (Some b))) → f ≡ true → among (body_table t) u ≡ true → k ≡ length (body_items t (slice_get (now_in a xs b) n))
+  stay_number None fl out num e w = let v = not_among t u (out refl) in let z : ◌≡◌ {A = ℕ} 0 1 = cc in absurd (omega arith)
+  stay_number (Some body_kind.Function) fl out num e w = num w ∙ ap (λ y. length (body_items t y)) (sym (nth_last xs b)) ∙ ap (λ y. length (body_items t (slice_get (xs ++ b ∷ []) y))) (eqb-true (length xs) n (sym fl ∙ e))
+  stay_number (Some body_kind.EntryPoint) fl out num e w = let z : ◌≡◌ {A = ℕ} 0 1 = cc in absurd (omega arith)
 
   number_step : Turns u i opened o xs b o' xs' b' → (among (body_table t) u ≡ true → k ≡ length (body_items t (Some b))) → (entered n f k opened && among (body_table t) u) ≡ true → k ≡ length (body_items t (slice_get (now_in o xs b) n))
   number_step (Turns.stays e p q g out) num w = let both = and_parts (entered n f k opened) _ w in stay_number o flag out num (sym (ap (entered n f k) e) ∙ both.0) both.1
@@ -295,35 +295,35 @@ abbrev openers : List Body → List Item
 openers bs = map (λ b. b.opener) bs
 
 -- whether a body of one kind opens
-abbrev mine : Open → Bool
-mine open_body.Nothing = false
-mine open_body.Function = true
-mine open_body.EntryPoint = false
+abbrev mine : Option BodyKind → Bool
+mine None = false
+mine (Some body_kind.Function) = true
+mine (Some body_kind.EntryPoint) = false
 
-openers_stay : (o : Open) (xs : List Body) (b c : Body) → c.opener ≡ b.opener → openers (now_in o xs c) ≡ openers (now_in o xs b)
-openers_stay open_body.Nothing xs b c e = refl
-openers_stay open_body.Function xs b c e = map_push (λ x. x.opener) xs c ∙ ap (λ i. openers xs ++ i ∷ []) e ∙ sym (map_push (λ x. x.opener) xs b)
-openers_stay open_body.EntryPoint xs b c e = refl
+openers_stay : (o : Option BodyKind) (xs : List Body) (b c : Body) → c.opener ≡ b.opener → openers (now_in o xs c) ≡ openers (now_in o xs b)
+openers_stay None xs b c e = refl
+openers_stay (Some body_kind.Function) xs b c e = map_push (λ x. x.opener) xs c ∙ ap (λ i. openers xs ++ i ∷ []) e ∙ sym (map_push (λ x. x.opener) xs b)
+openers_stay (Some body_kind.EntryPoint) xs b c e = refl
 
-openers_begin : (opened : Open) (xs : List Body) (i : Item) → openers (now_in opened xs (opened_by i)) ≡ grown (mine opened) (openers xs) i
-openers_begin open_body.Nothing xs i = refl
-openers_begin open_body.Function xs i = map_push (λ x. x.opener) xs (opened_by i)
-openers_begin open_body.EntryPoint xs i = refl
+openers_begin : (opened : Option BodyKind) (xs : List Body) (i : Item) → openers (now_in opened xs (opened_by i)) ≡ grown (mine opened) (openers xs) i
+openers_begin None xs i = refl
+openers_begin (Some body_kind.Function) xs i = map_push (λ x. x.opener) xs (opened_by i)
+openers_begin (Some body_kind.EntryPoint) xs i = refl
 
-openers_step : (u : SlotTable) (i : Item) (opened o : Open) (xs : List Body) (b : Body) (o' : Open) (xs' : List Body) (b' : Body) → Turns u i opened o xs b o' xs' b' → openers (now_in o' xs' b') ≡ grown (mine opened) (openers (now_in o xs b)) i
+openers_step : (u : SlotTable) (i : Item) (opened o : Option BodyKind) (xs : List Body) (b : Body) (o' : Option BodyKind) (xs' : List Body) (b' : Body) → Turns u i opened o xs b o' xs' b' → openers (now_in o' xs' b') ≡ grown (mine opened) (openers (now_in o xs b)) i
 openers_step u i opened o xs b o' xs' b' (Turns.stays e p q g out) = ap (λ y. openers (now_in y xs' b')) p ∙ ap (λ y. openers (now_in o y b')) q ∙ openers_stay o xs b b' g.opener ∙ unchanged _ _ i (ap mine e)
 openers_step u i opened o xs b o' xs' b' (Turns.begins l z p q r) = ap (λ y. openers (now_in y xs' b')) p ∙ ap (λ y. openers (now_in opened y b')) q ∙ ap (λ y. openers (now_in opened xs y)) r ∙ openers_begin opened xs i ∙ ap (λ y. grown (mine opened) (openers (now_in y xs b)) i) (sym z)
 openers_step u i opened o xs b o' xs' b' (Turns.ends l e p c g q) = ap (λ y. openers (now_in y xs' b')) p ∙ ap openers q ∙ openers_stay o xs b c g.opener ∙ unchanged _ _ i (ap mine e)
 
-openers_count : (o : Open) (xs : List Body) (b : Body) → length xs + function_open o ≡ length (openers (now_in o xs b))
-openers_count open_body.Nothing xs b = let e = length-map xs (λ (x : Body). x.opener) in omega arith
-openers_count open_body.Function xs b = let e = length-map (xs ++ b ∷ []) (λ (x : Body). x.opener) in let l = length_push xs b in omega arith
-openers_count open_body.EntryPoint xs b = let e = length-map xs (λ (x : Body). x.opener) in omega arith
+openers_count : (o : Option BodyKind) (xs : List Body) (b : Body) → length xs + function_open o ≡ length (openers (now_in o xs b))
+openers_count None xs b = let e = length-map xs (λ (x : Body). x.opener) in omega arith
+openers_count (Some body_kind.Function) xs b = let e = length-map (xs ++ b ∷ []) (λ (x : Body). x.opener) in let l = length_push xs b in omega arith
+openers_count (Some body_kind.EntryPoint) xs b = let e = length-map xs (λ (x : Body). x.opener) in omega arith
 
-entry_counts : (o : Open) → entry_open o ≡ function_open (other o)
-entry_counts open_body.Nothing = refl
-entry_counts open_body.Function = refl
-entry_counts open_body.EntryPoint = refl
+entry_counts : (o : Option BodyKind) → entry_open o ≡ function_open (other o)
+entry_counts None = refl
+entry_counts (Some body_kind.Function) = refl
+entry_counts (Some body_kind.EntryPoint) = refl
 
 function_mine : (u : SlotTable) → mine (opens u) ≡ same_table table.Functions u
 function_mine table.Unnumbered = refl
@@ -437,10 +437,10 @@ module _ (s : State) (r : Record) (k : Kind) (a : Admits s r k) where
   body_number handles.Filters e = let z : ◌≡◌ {A = ℕ} 0 1 = cc in absurd (omega arith)
   body_number handles.EntryPoints e = let z : ◌≡◌ {A = ℕ} 0 1 = cc in absurd (omega arith)
 
-  function_number : opens u ≡ open_body.Function → number_of_next u s ≡ length s.built.functions + function_open s.opened
+  function_number : opens u ≡ Some body_kind.Function → number_of_next u s ≡ length s.built.functions + function_open s.opened
   function_number e = numbered table.Functions (sym (function_mine u) ∙ ap mine e)
 
-  entry_number : other (opens u) ≡ open_body.Function → number_of_next u s ≡ length s.built.entries + function_open (other s.opened)
+  entry_number : other (opens u) ≡ Some body_kind.Function → number_of_next u s ≡ length s.built.entries + function_open (other s.opened)
   entry_number e = numbered table.EntryPoints (sym (entry_mine u) ∙ ap mine e) ∙ ap (λ y. length s.built.entries + y) (entry_counts s.opened)
 
   pub home_step : (h : Home) (t : Table) (f : Bool) → FlagOf h s f → Step h t s s' u i f

@@ -10,8 +10,8 @@ use Rattle.draft.specs.Admitted.{Accepted, admitted, admitted_with, image}
 use Rattle.draft.specs.declared.refusal.Refusal.{Refusal}
 use Rattle.draft.specs.declared.refusal.Refusal.TheVariants.{Full}
 use Rattle.draft.specs.declared.manner.Turn.{Turn}
-use Rattle.draft.specs.declared.state.Open.{Open}
-use Rattle.draft.specs.declared.state.Open.TheVariants as open_body
+use Rattle.draft.specs.declared.state.BodyKind.{BodyKind}
+use Rattle.draft.specs.declared.state.BodyKind.TheVariants as body_kind
 use Rattle.draft.specs.declared.state.SlotTable.{SlotTable}
 use Rattle.draft.specs.declared.state.SlotTable.TheVariants as table
 use Rattle.arena.specs.declared.slot.Slot.{Slot}
@@ -175,7 +175,7 @@ waiting_part {d} {bytes} {slots} {m} h from is =
 
 -- the cases of put
 module _ (room places : ℕ) (m : List Record) (r : Record) where
-  put_in_other : (o : Open) (t : SlotTable) → (t ≡ table.Types → ⊥) → put_in room places m r (table_in o t) ≡ added room places m r (table_in o t)
+  put_in_other : (o : Option BodyKind) (t : SlotTable) → (t ≡ table.Types → ⊥) → put_in room places m r (table_in o t) ≡ added room places m r (table_in o t)
   put_in_other o table.Unnumbered other = refl
   put_in_other o table.Taken other = refl
   put_in_other o table.Types other = absurd (other refl)
@@ -183,9 +183,9 @@ module _ (room places : ℕ) (m : List Record) (r : Record) where
   put_in_other o table.Constants other = refl
   put_in_other o table.GlobalVariables other = refl
   put_in_other o table.Filters other = refl
-  put_in_other open_body.Nothing table.Expressions other = refl
-  put_in_other open_body.Function table.Expressions other = refl
-  put_in_other open_body.EntryPoint table.Expressions other = refl
+  put_in_other None table.Expressions other = refl
+  put_in_other (Some body_kind.Function) table.Expressions other = refl
+  put_in_other (Some body_kind.EntryPoint) table.Expressions other = refl
   put_in_other o table.Functions other = refl
   put_in_other o table.EntryPoints other = refl
   put_in_other o table.LocalVariables other = refl

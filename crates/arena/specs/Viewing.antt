@@ -4,8 +4,8 @@ use Rattle.std.specs.List.{slice_get}
 use Rattle.ir.specs.declared.handle.Table.{Table}
 use Rattle.ir.specs.declared.handle.Table.TheVariants as handles
 use Rattle.rules.specs.Module.{Record, Item, Body}
-use Rattle.draft.specs.declared.state.Open.{Open}
-use Rattle.draft.specs.declared.state.Open.TheVariants as open_body
+use Rattle.draft.specs.declared.state.BodyKind.{BodyKind}
+use Rattle.draft.specs.declared.state.BodyKind.TheVariants as body_kind
 use Rattle.draft.specs.declared.state.SlotTable.{SlotTable}
 use Rattle.draft.specs.declared.state.SlotTable.TheVariants as table
 use Rattle.draft.specs.State.{State, functions_now, entries_now}
@@ -116,30 +116,30 @@ among None t = false
 among (Some w) t = same_table w t
 
 -- the body that a slot of this table opens
-abbrev pub opens : SlotTable → Open
-opens table.Unnumbered = open_body.Nothing
-opens table.Taken = open_body.Nothing
-opens table.Types = open_body.Nothing
-opens table.Overrides = open_body.Nothing
-opens table.Constants = open_body.Nothing
-opens table.GlobalVariables = open_body.Nothing
-opens table.Filters = open_body.Nothing
-opens table.Expressions = open_body.Nothing
-opens table.Functions = open_body.Function
-opens table.EntryPoints = open_body.EntryPoint
-opens table.LocalVariables = open_body.Nothing
-opens table.LocalExpressions = open_body.Nothing
+abbrev pub opens : SlotTable → Option BodyKind
+opens table.Unnumbered = None
+opens table.Taken = None
+opens table.Types = None
+opens table.Overrides = None
+opens table.Constants = None
+opens table.GlobalVariables = None
+opens table.Filters = None
+opens table.Expressions = None
+opens table.Functions = Some body_kind.Function
+opens table.EntryPoints = Some body_kind.EntryPoint
+opens table.LocalVariables = None
+opens table.LocalExpressions = None
 
-abbrev pub other : Open → Open
-other open_body.Nothing = open_body.Nothing
-other open_body.Function = open_body.EntryPoint
-other open_body.EntryPoint = open_body.Function
+abbrev pub other : Option BodyKind → Option BodyKind
+other None = None
+other (Some body_kind.Function) = Some body_kind.EntryPoint
+other (Some body_kind.EntryPoint) = Some body_kind.Function
 
 -- whether the function with the number n is entered, where a body with the number k opens
-abbrev pub entered : ℕ → Bool → ℕ → Open → Bool
-entered n inside k open_body.Nothing = inside
-entered n inside k open_body.Function = k == n
-entered n inside k open_body.EntryPoint = false
+abbrev pub entered : ℕ → Bool → ℕ → Option BodyKind → Bool
+entered n inside k None = inside
+entered n inside k (Some body_kind.Function) = k == n
+entered n inside k (Some body_kind.EntryPoint) = false
 
 -- whether a slot of this table and number stands in a home, where those before it do or do not
 abbrev pub enters : Home → Bool → SlotTable → ℕ → Bool

@@ -14,7 +14,7 @@ use crate::slot::Slot;
 use draft::behaviour::{manner, table_in};
 use draft::counts::Counts;
 use draft::refusal::Refusal;
-use draft::state::{SlotTable, Waits};
+use draft::state::SlotTable;
 use ir::kinds::Kind;
 
 impl Draft {
@@ -52,7 +52,7 @@ impl Draft {
         let place = self.counts.kept - self.counts.waiting;
         self.counts.used = self.start_of(bytes, slots, place);
         self.counts.kept = place;
-        self.counts.waits = Waits::Nothing;
+        self.counts.waits = None;
         self.counts.waiting = 0;
     }
 

@@ -7,7 +7,7 @@ ghost use Rattle.arena.specs.Viewing.{Views, viewed, ViewOf, items_in, places_in
 
 use crate::Draft;
 use crate::slot::Slot;
-use draft::state::{Open, SlotTable};
+use draft::state::{BodyKind, SlotTable};
 use ir::handle::Table;
 
 /// Where items are numbered: in the module, or in the body of the function or entry point with that
@@ -92,13 +92,13 @@ fn table_in(home: Home, table: Table) -> Option<SlotTable>
 }
 
 /// Which body a slot of this table opens.
-fn opened_by(table: SlotTable) -> Open
+fn opened_by(table: SlotTable) -> Option<BodyKind>
     ensures { result ≡ opens table }
 {
     match table {
-        SlotTable::Functions => Open::Function,
-        SlotTable::EntryPoints => Open::EntryPoint,
-        _ => Open::Nothing,
+        SlotTable::Functions => Some(BodyKind::Function),
+        SlotTable::EntryPoints => Some(BodyKind::EntryPoint),
+        _ => None,
     }
 }
 
@@ -109,14 +109,14 @@ fn is_inside(home: Home, inside: bool, slot: Slot) -> bool
     match home {
         Home::Module => true,
         Home::Function(number) => match opened_by(slot.table) {
-            Open::Nothing => inside,
-            Open::Function => slot.number == number,
-            Open::EntryPoint => false,
+            None => inside,
+            Some(BodyKind::Function) => slot.number == number,
+            Some(BodyKind::EntryPoint) => false,
         },
         Home::EntryPoint(number) => match opened_by(slot.table) {
-            Open::Nothing => inside,
-            Open::Function => false,
-            Open::EntryPoint => slot.number == number,
+            None => inside,
+            Some(BodyKind::Function) => false,
+            Some(BodyKind::EntryPoint) => slot.number == number,
         },
     }
 }

@@ -9,7 +9,9 @@ use Rattle.command.specs.declared.Misuse.{Misuse}
 use Rattle.command.specs.declared.Misuse.TheVariants.{NoCommand, UnknownCommand, UnknownOption, NoNumber}
 use Rattle.command.specs.declared.Options.{Options}
 use Rattle.command.specs.declared.Progress.{Progress}
-use Rattle.command.specs.declared.Progress.TheVariants.{Empty, Reporting, AwaitingBytes, AwaitingSlots, Settled, Wrong}
+use Rattle.command.specs.declared.Limit.{Limit}
+use Rattle.command.specs.declared.Limit.TheVariants as limit
+use Rattle.command.specs.declared.Progress.TheVariants.{Empty, Reporting, Awaiting, Settled}
 
 -- from low to high, both included
 abbrev pub within : ℕ → ℕ → ℕ → Bool
@@ -46,51 +48,51 @@ number_in (b ∷ w) = fold digit_more (Some 0) (b ∷ w)
 
 -- a word behind `report`: the first that asks for help or the version, or is unknown, decides
 abbrev pub option_of : Word → Options → Progress
-option_of word.Plain o = Reporting (record { plain = true; keep_going = o.keep_going; bytes = o.bytes; slots = o.slots; named = o.named })
-option_of word.KeepGoing o = Reporting (record { plain = o.plain; keep_going = true; bytes = o.bytes; slots = o.slots; named = o.named })
-option_of word.Bytes o = AwaitingBytes o
-option_of word.Slots o = AwaitingSlots o
-option_of word.Help o = Settled Help
-option_of word.Version o = Settled Version
-option_of word.StandardInput o = Reporting (record { plain = o.plain; keep_going = o.keep_going; bytes = o.bytes; slots = o.slots; named = true })
-option_of word.File o = Reporting (record { plain = o.plain; keep_going = o.keep_going; bytes = o.bytes; slots = o.slots; named = true })
-option_of word.Unknown o = Wrong UnknownOption
+option_of word.Plain o = Reporting (record o { plain = true })
+option_of word.KeepGoing o = Reporting (record o { keep_going = true })
+option_of word.Bytes o = Awaiting limit.Bytes o
+option_of word.Slots o = Awaiting limit.Slots o
+option_of word.Help o = Settled (Ok Help)
+option_of word.Version o = Settled (Ok Version)
+option_of word.StandardInput o = Reporting (record o { named = true })
+option_of word.File o = Reporting (record o { named = true })
+option_of word.Unknown o = Settled (Err UnknownOption)
 
 -- the word behind `--bytes` or `--slots`
-abbrev pub bytes_given : Option ℕ → Options → Progress
-bytes_given None o = Wrong NoNumber
-bytes_given (Some n) o = Reporting (record { plain = o.plain; keep_going = o.keep_going; bytes = Some n; slots = o.slots; named = o.named })
-
-abbrev pub slots_given : Option ℕ → Options → Progress
-slots_given None o = Wrong NoNumber
-slots_given (Some n) o = Reporting (record { plain = o.plain; keep_going = o.keep_going; bytes = o.bytes; slots = Some n; named = o.named })
+abbrev pub limit_given : Limit → Option ℕ → Options → Progress
+limit_given l None o = Settled (Err NoNumber)
+limit_given limit.Bytes (Some n) o = Reporting (record o { bytes = Some n })
+limit_given limit.Slots (Some n) o = Reporting (record o { slots = Some n })
 
 -- the first word
 abbrev pub command_of : List ℕ → Progress
 command_of w =
     cond (bytes_eq w (codes "report")) (Reporting (record { plain = false; keep_going = false; bytes = None; slots = None; named = false }))
-    (cond (bytes_eq w (codes "--help")) (Settled Help)
-    (cond (bytes_eq w (codes "-h")) (Settled Help)
-    (cond (bytes_eq w (codes "--version")) (Settled Version)
-    (Wrong UnknownCommand))))
+    (cond (bytes_eq w (codes "--help")) (Settled (Ok Help))
+    (cond (bytes_eq w (codes "-h")) (Settled (Ok Help))
+    (cond (bytes_eq w (codes "--version")) (Settled (Ok Version))
+    (Settled (Err UnknownCommand)))))
 
 -- one word more
 abbrev pub next_of : Progress → List ℕ → Progress
 next_of Empty w = command_of w
 next_of (Reporting o) w = option_of (word_of w) o
-next_of (AwaitingBytes o) w = bytes_given (number_in w) o
-next_of (AwaitingSlots o) w = slots_given (number_in w) o
+next_of (Awaiting l o) w = limit_given l (number_in w) o
 next_of (Settled r) w = Settled r
-next_of (Wrong m) w = Wrong m
 
 abbrev pub finished : Progress → Result Request Misuse
 finished Empty = Err NoCommand
 finished (Reporting o) = Ok (Report o)
-finished (AwaitingBytes o) = Err NoNumber
-finished (AwaitingSlots o) = Err NoNumber
-finished (Settled r) = Ok r
-finished (Wrong m) = Err m
+finished (Awaiting l o) = Err NoNumber
+finished (Settled r) = r
 
 -- a whole command line, the program's own name aside: its words from left to right
 abbrev pub parsed : {A : Type 0} → (A → List ℕ) → List A → Result Request Misuse
 parsed text words = finished (fold (λ p w. next_of p (text w)) Empty words)
+
+-- what is wrong, in words
+abbrev pub misuse_text : Misuse → List ℕ
+misuse_text NoCommand = codes "no command"
+misuse_text UnknownCommand = codes "no such command"
+misuse_text UnknownOption = codes "no such option"
+misuse_text NoNumber = codes "--bytes and --slots take a number"

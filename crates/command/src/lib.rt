@@ -1,12 +1,15 @@
 //! What a command line asks for.
 #![tactic(auto)]
 
-ghost use Rattle.std.specs.Prelude.{◌≡◌, string_bytes};
-ghost use Rattle.std.specs.Str.{bytes_eq};
-ghost use Rattle.command.specs.Command.{dashed, word_of, digit_more, number_in, bytes_given, slots_given, option_of, command_of, next_of, finished, parsed};
+ghost use Rattle.std.specs.Prelude.{◌≡◌, Some, string_bytes};
+ghost use Rattle.command.specs.Command.{word_of, digit_more, number_in, limit_given, option_of, command_of, next_of, finished, parsed, misuse_text};
+
+use std::error::Error;
+use std::fmt;
+use std::fmt::Display;
 
 /// What a word behind the command is.
-#[derive(Clone, Copy)]
+#[derive(Clone, Copy, PartialEq, Eq, Debug)]
 pub enum Word {
     Plain,
     KeepGoing,
@@ -24,7 +27,7 @@ pub enum Word {
 }
 
 /// How to report.
-#[derive(Clone, Copy)]
+#[derive(Clone, Copy, PartialEq, Eq, Default, Debug)]
 pub struct Options {
     pub plain: bool,
     /// Whether to go on behind a refused record.
@@ -36,7 +39,8 @@ pub struct Options {
     pub named: bool,
 }
 
-#[derive(Clone, Copy)]
+/// What a command line asks for.
+#[derive(Clone, Copy, PartialEq, Eq, Debug)]
 pub enum Request {
     Report(Options),
     Help,
@@ -44,7 +48,7 @@ pub enum Request {
 }
 
 /// What is wrong with a command line.
-#[derive(Clone, Copy)]
+#[derive(Clone, Copy, PartialEq, Eq, Debug)]
 pub enum Misuse {
     NoCommand,
     UnknownCommand,
@@ -53,48 +57,46 @@ pub enum Misuse {
     NoNumber,
 }
 
-fn same(a: &str, b: &str) -> bool
-    ensures { result ≡ bytes_eq a.now b.now }
-{
-    a == b
-}
+/// What is wrong, in words.
+impl Display for Misuse {
+    ghost output = { λ m. Some (misuse_text m) };
 
-fn is_dashed(text: &str) -> bool
-    ensures { result ≡ dashed text.now }
-{
-    match text.as_bytes() {
-        [first, ..] => *first == b'-',
-        [] => false,
+    fn fmt<W: fmt::Write>(&self, f: &mut fmt::Formatter<W>) -> fmt::Result {
+        f.write_str(match self {
+            Misuse::NoCommand => "no command",
+            Misuse::UnknownCommand => "no such command",
+            Misuse::UnknownOption => "no such option",
+            Misuse::NoNumber => "--bytes and --slots take a number",
+        })
     }
 }
 
-impl Word {
-    /// A word behind the command.
-    pub fn read(text: &str) -> Word
-        ensures { result ≡ word_of text.now }
-    {
-        if same(text, "--plain") {
-            Word::Plain
-        } else if same(text, "--keep-going") {
-            Word::KeepGoing
-        } else if same(text, "--bytes") {
-            Word::Bytes
-        } else if same(text, "--slots") {
-            Word::Slots
-        } else if same(text, "--help") {
-            Word::Help
-        } else if same(text, "-h") {
-            Word::Help
-        } else if same(text, "--version") {
-            Word::Version
-        } else if same(text, "-") {
-            Word::StandardInput
-        } else if is_dashed(text) {
-            Word::Unknown
-        } else {
-            Word::File
+impl Error for Misuse {}
+
+/// A word behind the command.
+impl From<&str> for Word {
+    ghost from_gives = { λ text word. word ≡ word_of text.now };
+
+    fn from(text: &str) -> Word {
+        match text {
+            "--plain" => Word::Plain,
+            "--keep-going" => Word::KeepGoing,
+            "--bytes" => Word::Bytes,
+            "--slots" => Word::Slots,
+            "--help" | "-h" => Word::Help,
+            "--version" => Word::Version,
+            "-" => Word::StandardInput,
+            _ if text.starts_with('-') => Word::Unknown,
+            _ => Word::File,
         }
     }
+}
+
+/// Which memory an option limits.
+#[derive(Clone, Copy)]
+enum Limit {
+    Bytes,
+    Slots,
 }
 
 /// What the words so far come to.
@@ -103,11 +105,21 @@ enum Progress {
     /// There is none.
     Empty,
     Reporting(Options),
-    /// `--bytes` came, and its number is next.
-    AwaitingBytes(Options),
-    AwaitingSlots(Options),
-    Settled(Request),
-    Wrong(Misuse),
+    /// An option came whose number is next.
+    Awaiting(Limit, Options),
+    /// A word decided, whatever comes behind it.
+    Settled(Result<Request, Misuse>),
+}
+
+fn take_command(text: &str) -> Progress
+    ensures { result ≡ command_of text.now }
+{
+    match text {
+        "report" => Progress::Reporting(Options::default()),
+        "--help" | "-h" => Progress::Settled(Ok(Request::Help)),
+        "--version" => Progress::Settled(Ok(Request::Version)),
+        _ => Progress::Settled(Err(Misuse::UnknownCommand)),
+    }
 }
 
 fn take_option(word: Word, options: Options) -> Progress
@@ -122,86 +134,53 @@ fn take_option(word: Word, options: Options) -> Progress
             keep_going: true,
             ..options
         }),
-        Word::Bytes => Progress::AwaitingBytes(options),
-        Word::Slots => Progress::AwaitingSlots(options),
-        Word::Help => Progress::Settled(Request::Help),
-        Word::Version => Progress::Settled(Request::Version),
+        Word::Bytes => Progress::Awaiting(Limit::Bytes, options),
+        Word::Slots => Progress::Awaiting(Limit::Slots, options),
+        Word::Help => Progress::Settled(Ok(Request::Help)),
+        Word::Version => Progress::Settled(Ok(Request::Version)),
         Word::StandardInput | Word::File => Progress::Reporting(Options {
             named: true,
             ..options
         }),
-        Word::Unknown => Progress::Wrong(Misuse::UnknownOption),
+        Word::Unknown => Progress::Settled(Err(Misuse::UnknownOption)),
     }
 }
 
 /// The number with one digit more.
-fn add_digit(number: Option<u64>, digit: u8) -> Option<u64>
-    ensures { result ≡ digit_more number digit }
+fn add_digit(number: usize, digit: u8) -> Option<usize>
+    ensures { result ≡ digit_more (Some number) digit }
 {
-    match (number, digit) {
-        (Some(number), b'0'..=b'9') => number.checked_mul(10)?.checked_add(u64::from(digit - b'0')),
+    match digit {
+        b'0'..=b'9' => number
+            .checked_mul(10)?
+            .checked_add(usize::from(digit - b'0')),
         _ => None,
     }
 }
 
 /// The number that decimal digits write.
-fn read_number(text: &str) -> Option<u64>
+fn read_number(text: &str) -> Option<usize>
     ensures { result ≡ number_in text.now }
 {
     let digits = text.as_bytes();
     if digits.is_empty() {
         return None;
     }
-    let mut number = Some(0);
+    let mut number = 0;
     for digit in digits {
-        number = add_digit(number, *digit);
+        number = add_digit(number, *digit)?;
     }
-    number
+    Some(number)
 }
 
-fn take_bytes(number: Option<u64>, options: Options) -> Progress
-    ensures { result ≡ bytes_given number options }
+/// The word behind an option that takes a number.
+fn take_limit(limit: Limit, number: Option<usize>, options: Options) -> Progress
+    ensures { result ≡ limit_given limit number options }
 {
-    match number {
-        Some(number) => Progress::Reporting(Options {
-            bytes: Some(number as usize),
-            ..options
-        }),
-        None => Progress::Wrong(Misuse::NoNumber),
-    }
-}
-
-fn take_slots(number: Option<u64>, options: Options) -> Progress
-    ensures { result ≡ slots_given number options }
-{
-    match number {
-        Some(number) => Progress::Reporting(Options {
-            slots: Some(number as usize),
-            ..options
-        }),
-        None => Progress::Wrong(Misuse::NoNumber),
-    }
-}
-
-fn take_command(text: &str) -> Progress
-    ensures { result ≡ command_of text.now }
-{
-    if same(text, "report") {
-        Progress::Reporting(Options {
-            plain: false,
-            keep_going: false,
-            bytes: None,
-            slots: None,
-            named: false,
-        })
-    } else if same(text, "--help") {
-        Progress::Settled(Request::Help)
-    } else if same(text, "-h") {
-        Progress::Settled(Request::Help)
-    } else if same(text, "--version") {
-        Progress::Settled(Request::Version)
-    } else {
-        Progress::Wrong(Misuse::UnknownCommand)
+    match (limit, number) {
+        (_, None) => Progress::Settled(Err(Misuse::NoNumber)),
+        (Limit::Bytes, bytes) => Progress::Reporting(Options { bytes, ..options }),
+        (Limit::Slots, slots) => Progress::Reporting(Options { slots, ..options }),
     }
 }
 
@@ -212,23 +191,21 @@ impl Progress {
     {
         match self {
             Progress::Empty => take_command(text),
-            Progress::Reporting(options) => take_option(Word::read(text), options),
-            Progress::AwaitingBytes(options) => take_bytes(read_number(text), options),
-            Progress::AwaitingSlots(options) => take_slots(read_number(text), options),
-            Progress::Settled(request) => Progress::Settled(request),
-            Progress::Wrong(misuse) => Progress::Wrong(misuse),
+            Progress::Reporting(options) => take_option(Word::from(text), options),
+            Progress::Awaiting(limit, options) => take_limit(limit, read_number(text), options),
+            Progress::Settled(outcome) => Progress::Settled(outcome),
         }
     }
 
+    /// What the words come to where no more follow.
     fn finish(self) -> Result<Request, Misuse>
         ensures { result ≡ finished self }
     {
         match self {
             Progress::Empty => Err(Misuse::NoCommand),
             Progress::Reporting(options) => Ok(Request::Report(options)),
-            Progress::AwaitingBytes(_) | Progress::AwaitingSlots(_) => Err(Misuse::NoNumber),
-            Progress::Settled(request) => Ok(request),
-            Progress::Wrong(misuse) => Err(misuse),
+            Progress::Awaiting(..) => Err(Misuse::NoNumber),
+            Progress::Settled(outcome) => outcome,
         }
     }
 }
@@ -237,11 +214,13 @@ impl Progress {
 pub fn parse(words: &[String]) -> Result<Request, Misuse>
     ensures { result ≡ parsed string_bytes words.now }
 {
-    let mut progress = Progress::Empty;
-    for word in words {
-        progress = progress.next(word.as_str());
-    }
-    progress.finish()
+    words
+        .iter()
+        .fold(
+            Progress::Empty,
+            |progress, word| progress.next(word.as_str()),
+        )
+        .finish()
 }
 
 #[cfg(test)]
@@ -250,81 +229,89 @@ mod tests {
     use std::alloc::{AllocError, Global};
     use std::test::Fail;
 
-    fn words(heap: Global, line: &str) -> Result<Vec<String>, AllocError> {
+    /// What a line, cut at white space, asks for.
+    fn parsed(heap: Global, line: &str) -> Result<Result<Request, Misuse>, AllocError> {
         let mut words = Vec::new(heap);
         for word in line.split_whitespace() {
             words.push(String::from_str(heap, word)?)?;
         }
-        Ok(words)
-    }
-
-    // What a line comes to, as one letter.
-    fn meaning(heap: Global, line: &str) -> Result<char, AllocError> {
-        Ok(match parse(words(heap, line)?.as_slice()) {
-            Ok(Request::Help) => 'h',
-            Ok(Request::Version) => 'v',
-            Ok(Request::Report(Options { plain: true, .. })) => 'p',
-            Ok(
-                Request::Report(
-                    Options {
-                        keep_going: true,
-                        ..
-                    },
-                ),
-            ) => 'k',
-            Ok(
-                Request::Report(
-                    Options {
-                        bytes: Some(10),
-                        slots: None,
-                        ..
-                    },
-                ),
-            ) => 'b',
-            Ok(
-                Request::Report(
-                    Options {
-                        bytes: None,
-                        slots: Some(7),
-                        ..
-                    },
-                ),
-            ) => 's',
-            Ok(Request::Report(Options { named: true, .. })) => 'n',
-            Ok(Request::Report(_)) => 'r',
-            Err(Misuse::NoCommand) => '0',
-            Err(Misuse::UnknownCommand) => '1',
-            Err(Misuse::UnknownOption) => '2',
-            Err(Misuse::NoNumber) => '3',
-        })
+        Ok(parse(words.as_slice()))
     }
 
     #[test]
     fn commands(rt: HostRuntime) -> Result<(), Fail> {
         let heap = rt.alloc();
-        assert_eq!(rt; meaning(heap, "")?, '0');
-        assert_eq!(rt; meaning(heap, "reprt a")?, '1');
-        assert_eq!(rt; meaning(heap, "--help")?, 'h');
-        assert_eq!(rt; meaning(heap, "-h report")?, 'h');
-        assert_eq!(rt; meaning(heap, "--version")?, 'v');
-        assert_eq!(rt; meaning(heap, "report")?, 'r');
-        assert_eq!(rt; meaning(heap, "report a -")?, 'n');
-        assert_eq!(rt; meaning(heap, "report -")?, 'n');
+        let named = Options {
+            named: true,
+            ..Options::default()
+        };
+        assert_eq!(rt; parsed(heap, "")?, Err(Misuse::NoCommand));
+        assert_eq!(rt; parsed(heap, "reprt a")?, Err(Misuse::UnknownCommand));
+        assert_eq!(rt; parsed(heap, "--help")?, Ok(Request::Help));
+        assert_eq!(rt; parsed(heap, "-h report")?, Ok(Request::Help));
+        assert_eq!(rt; parsed(heap, "--version")?, Ok(Request::Version));
+        assert_eq!(rt;
+            parsed(heap, "report")?,
+            Ok(Request::Report(Options::default()))
+        );
+        assert_eq!(rt; parsed(heap, "report a -")?, Ok(Request::Report(named)));
+        assert_eq!(rt; parsed(heap, "report -")?, Ok(Request::Report(named)));
         Ok(())
     }
 
     #[test]
     fn options(rt: HostRuntime) -> Result<(), Fail> {
         let heap = rt.alloc();
-        assert_eq!(rt; meaning(heap, "report a --plain b")?, 'p');
-        assert_eq!(rt; meaning(heap, "report --keep-going a")?, 'k');
-        assert_eq!(rt; meaning(heap, "report --bytes 10 a")?, 'b');
-        assert_eq!(rt; meaning(heap, "report --slots 007")?, 's');
-        assert_eq!(rt; meaning(heap, "report --bytes")?, '3');
-        assert_eq!(rt; meaning(heap, "report --bytes 1x a")?, '3');
-        assert_eq!(rt; meaning(heap, "report --slots 18446744073709551616")?, '3');
-        assert_eq!(rt; meaning(heap, "report a --unknown --help")?, '2');
-        assert_eq!(rt; meaning(heap, "report a --help --unknown")?, 'h');
+        let named = Options {
+            named: true,
+            ..Options::default()
+        };
+        let plain = Options {
+            plain: true,
+            ..named
+        };
+        let keep_going = Options {
+            keep_going: true,
+            ..named
+        };
+        let ten_bytes = Options {
+            bytes: Some(10),
+            ..named
+        };
+        let seven_slots = Options {
+            slots: Some(7),
+            ..Options::default()
+        };
+        assert_eq!(rt;
+            parsed(heap, "report a --plain b")?,
+            Ok(Request::Report(plain))
+        );
+        assert_eq!(rt;
+            parsed(heap, "report --keep-going a")?,
+            Ok(Request::Report(keep_going))
+        );
+        assert_eq!(rt;
+            parsed(heap, "report --bytes 10 a")?,
+            Ok(Request::Report(ten_bytes))
+        );
+        assert_eq!(rt;
+            parsed(heap, "report --slots 007")?,
+            Ok(Request::Report(seven_slots))
+        );
+        assert_eq!(rt; parsed(heap, "report --bytes")?, Err(Misuse::NoNumber));
+        assert_eq!(rt; parsed(heap, "report --bytes 1x a")?, Err(Misuse::NoNumber));
+        assert_eq!(rt;
+            parsed(heap, "report --slots 18446744073709551616")?,
+            Err(Misuse::NoNumber)
+        );
+        assert_eq!(rt;
+            parsed(heap, "report a --unknown --help")?,
+            Err(Misuse::UnknownOption)
+        );
+        assert_eq!(rt;
+            parsed(heap, "report a --help --unknown")?,
+            Ok(Request::Help)
+        );
         Ok(())
     }
 }

@@ -1,9 +1,8 @@
 -- The records that wait are the last of the kept ones, and without them the state is as it was.
-use Rattle.std.proofs.Common.{◌≡◌, ◌+◌, ◌-◌, ◌≤◌, ◌⊎◌, List, [], ◌∷◌, ◌++◌, length, take, sym, refl, ap, ◌∙◌, subst, inl, inr, ⊎_elim, append_assoc, append-nil, arith, length-append}
+use Rattle.std.proofs.Common.{◌≡◌, ◌+◌, ◌-◌, ◌≤◌, ◌⊎◌, List, [], ◌∷◌, ◌++◌, length, take, sym, refl, ap, ◌∙◌, subst, inl, inr, ⊎_elim, append_assoc, append-nil, arith, length-append, None}
 use Rattle.std.proofs.lemmas.List.{take_at}
 use Rattle.ir.specs.declared.kinds.Kind.{Kind}
 use Rattle.ir.specs.declared.kinds.Kind.TheVariants as kind
-use Rattle.draft.specs.declared.state.Waits.TheVariants as waits
 use Rattle.draft.specs.Manner.{manner_of}
 use Rattle.rules.specs.Module.{Record}
 use Rattle.draft.specs.State.{State, start, step, stepped, state, waiting_after}
@@ -12,7 +11,7 @@ use Rattle.draft.proofs.Stepping.{Admits, step_is, state_push, throughout, image
 
 -- the state of these records, where nothing waits
 abbrev pub bare : State → List Record → State
-bare s front = record { built = s.built; opened = s.opened; body = s.body; brackets = s.brackets; waits = waits.Nothing; waiting = []; kept = length front; used = length (image front) }
+bare s front = record s { waits = None; waiting = []; kept = length front; used = length (image front) }
 
 pub record Fronted (m : List Record) (s : State) : Type 0 where
   pub is : state m ≡ s
@@ -23,30 +22,10 @@ pub record Fronted (m : List Record) (s : State) : Type 0 where
   pub before : state front ≡ bare s front
 
 -- members and operands wait, and nothing else
-joins_cases : (k : Kind) → ((manner_of k).joins ≡ waits.Nothing) ⊎ ((k ≡ kind.Member) ⊎ (k ≡ kind.Operand))
+joins_cases : (k : Kind) → ((manner_of k).joins ≡ None) ⊎ ((k ≡ kind.Member) ⊎ (k ≡ kind.Operand))
 joins_cases kind.Member = inr (inl refl)
 joins_cases kind.Operand = inr (inr refl)
-joins_cases kind.Override = inl refl
-joins_cases kind.Constant = inl refl
-joins_cases kind.GlobalVariable = inl refl
-joins_cases kind.SpecialTypes = inl refl
-joins_cases kind.Predeclared = inl refl
-joins_cases kind.Filter = inl refl
-joins_cases kind.Leaf = inl refl
-joins_cases kind.Function = inl refl
-joins_cases kind.EntryPoint = inl refl
-joins_cases kind.FunctionArgument = inl refl
-joins_cases kind.FunctionResult = inl refl
-joins_cases kind.LocalVariable = inl refl
-joins_cases (kind.Type t) = inl refl
-joins_cases kind.Named = inl refl
-joins_cases kind.EndFunction = inl refl
-joins_cases (kind.Expression e) = inl refl
-joins_cases (kind.Statement c) = inl refl
-joins_cases kind.End = inl refl
-joins_cases kind.EndLoop = inl refl
-joins_cases kind.Case = inl refl
-joins_cases kind.EndSwitch = inl refl
+joins_cases k = inl refl
 
 module _ (m : List Record) (s : State) (r : Record) (f : Fronted m s) where
   is_next : (k : Kind) → Admits s r k → state (m ++ r ∷ []) ≡ stepped k r s
@@ -58,7 +37,7 @@ module _ (m : List Record) (s : State) (r : Record) (f : Fronted m s) where
   kept_next : s.kept + 1 ≡ length (m ++ r ∷ [])
   kept_next = ap (λ n. n + 1) f.kept_is ∙ sym (length-append m (r ∷ []))
 
-  plain_next : (k : Kind) → Admits s r k → (manner_of k).joins ≡ waits.Nothing → Fronted (m ++ r ∷ []) (stepped k r s)
+  plain_next : (k : Kind) → Admits s r k → (manner_of k).joins ≡ None → Fronted (m ++ r ∷ []) (stepped k r s)
   plain_next k a free =
       let none : waiting_after (manner_of k).joins s.waiting r ≡ [] = ap (λ w. waiting_after w s.waiting r) free in
       record {

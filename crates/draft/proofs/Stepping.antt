@@ -1,7 +1,8 @@
 -- One record more: what it does to the state, and what holds along the way.
-use Rattle.std.proofs.Common.{◌≡◌, ℕ, ◌+◌, ◌≤◌, Bool, true, false, cond, List, [], ◌∷◌, ◌++◌, length, is_ok, Some, None, Ok, Err, fold, Option, Result, sym, refl, ap, ◌∙◌, subst, append_assoc, append-nil, arith, length-append}
+use Rattle.std.proofs.Common.{◌≡◌, ◌+◌, ◌≤◌, Bool, true, false, cond, List, [], ◌∷◌, ◌++◌, length, is_ok, Some, None, Ok, Err, fold, Option, Result, sym, refl, ap, ◌∙◌, subst, append_assoc, append-nil, arith, length-append}
 use Rattle.std.proofs.lemmas.List.Sums.{fold_push}
 use Rattle.std.proofs.lemmas.Bool.{leb-false}
+use Rattle.std.proofs.lemmas.Grind.{flat_map-append}
 use Rattle.ir.specs.declared.kinds.Kind.{Kind}
 use Rattle.records.specs.declared.judge.Flaw.{Flaw}
 use Rattle.records.specs.Record.{judged}
@@ -30,12 +31,12 @@ pub record Admits (s : State) (r : Record) (k : Kind) : Type 0 where
   pub shallow : too_deep s k ≡ false
 
 placed_is : (b c : Bool) (j k : Kind) → cond b (cond c (Err TooDeep) (Ok j)) (Err Misplaced) ≡ Ok k → (b ≡ true) × (c ≡ false) × (j ≡ k)
-placed_is true true j k h = let z : ◌≡◌ {A = ℕ} 0 1 = cc in absurd (omega arith)
+placed_is true true j k h = absurd cc
 placed_is true false j k h = (refl, refl, cc)
-placed_is false c j k h = let z : ◌≡◌ {A = ℕ} 0 1 = cc in absurd (omega arith)
+placed_is false c j k h = absurd cc
 
 admits_judged : (s : State) (f : Result Kind Flaw) (k : Kind) → admitted_with s.waits s.opened (innermost s.brackets) (length s.brackets) f ≡ Ok k → (f ≡ Ok k) × (in_place s k ≡ true) × (too_deep s k ≡ false)
-admits_judged s (Err e) k h = let z : ◌≡◌ {A = ℕ} 0 1 = cc in absurd (omega arith)
+admits_judged s (Err e) k h = absurd cc
 admits_judged s (Ok j) k h =
     let p = placed_is (in_place s j) (too_deep s j) j k h in
     (ap Ok p.2, subst (λ x. in_place s x ≡ true) p.2 p.0, subst (λ x. too_deep s x ≡ false) p.2 p.1)
@@ -45,7 +46,7 @@ admits s r k h = let p = admits_judged s (judged r) k h in record { kind_is = p.
 
 ok_is : (f : Result Kind Refusal) → is_ok f ≡ true → (k : Kind) × (f ≡ Ok k)
 ok_is (Ok k) h = (k, refl)
-ok_is (Err e) h = let z : ◌≡◌ {A = ℕ} 0 1 = cc in absurd (omega arith)
+ok_is (Err e) h = absurd cc
 
 pub admitted_kind : (s : State) (r : Record) → is_ok (admitted s r) ≡ true → (k : Kind) × Admits s r k
 admitted_kind s r h = let p = ok_is (admitted s r) h in (p.0, admits s r p.0 p.1)
@@ -76,8 +77,7 @@ accepted_front s [] n a = tt
 accepted_front s (x ∷ m) n a = (a.0, accepted_front (step s x) m n a.1)
 
 pub image_append : (m n : List Record) → image (m ++ n) ≡ image m ++ image n
-image_append [] n = refl
-image_append (x ∷ m) n = ap (λ s. x ++ s) (image_append m n) ∙ sym (append_assoc x (image m) (image n))
+image_append m n = flat_map-append (λ r. r) m n
 
 pub image_push : (m : List Record) (r : Record) → image (m ++ r ∷ []) ≡ image m ++ r
 image_push m r = image_append m (r ∷ []) ∙ ap (λ b. image m ++ b) (append-nil r)

@@ -1,17 +1,16 @@
 -- The counts after one more record are those of the state after it.
-use Rattle.std.proofs.Common.{◌≡◌, ℕ, suc, ◌+◌, ◌-◌, ◌<◌, ◌≤◌, true, false, eqb, List, [], ◌∷◌, ◌++◌, length, get_or, set, replicate, is_some, Some, None, Option, sym, refl, ap, ◌∙◌, append_assoc, arith}
-use Rattle.std.proofs.lemmas.List.{length_push, set_at, get_or_at}
+use Rattle.std.proofs.Common.{◌≡◌, ℕ, suc, ◌+◌, ◌-◌, ◌<◌, ◌≤◌, true, false, eqb, List, [], ◌∷◌, ◌++◌, length, reverse, get_or, set, replicate, is_some, Some, None, Option, sym, refl, ap, ◌∙◌, append_assoc, arith}
+use Rattle.std.proofs.lemmas.List.{length_push, length-reverse, reverse-append, set_at, get_or_at}
 use Rattle.std.proofs.lemmas.Bool.{leb-false, and_parts, ne_eqb, cond-false}
 use Rattle.ir.specs.declared.kinds.Kind.{Kind}
 use Rattle.ir.specs.declared.kinds.Kind.TheVariants as kind
 use Rattle.ir.specs.declared.kinds.Statement.{Statement}
 use Rattle.ir.specs.declared.kinds.Statement.TheVariants as statement
-use Rattle.draft.specs.declared.state.Open.{Open}
-use Rattle.draft.specs.declared.state.Open.TheVariants as open_body
+use Rattle.draft.specs.declared.state.BodyKind.{BodyKind}
+use Rattle.draft.specs.declared.state.BodyKind.TheVariants as body_kind
 use Rattle.draft.specs.declared.state.Bracket.{Bracket}
 use Rattle.draft.specs.declared.state.Bracket.TheVariants as bracket
-use Rattle.draft.specs.declared.state.Waits.{Waits}
-use Rattle.draft.specs.declared.state.Waits.TheVariants as waits
+use Rattle.draft.specs.declared.state.Pieces.{Pieces}
 use Rattle.draft.specs.declared.state.SlotTable.{SlotTable}
 use Rattle.draft.specs.declared.state.SlotTable.TheVariants as table
 use Rattle.draft.specs.declared.manner.Motion.{Motion}
@@ -22,130 +21,59 @@ use Rattle.draft.specs.declared.counts.Lengths.{Lengths}
 use Rattle.draft.specs.Manner.{manner_of, turn_of, statement_motion}
 use Rattle.rules.specs.Module.{Record, Module, Body, closed}
 use Rattle.draft.specs.State.{State, stepped, item_of, meets, on_side, turned, deepens, innermost, table_in, open_after, number_of_next, waiting_after}
-use Rattle.draft.specs.Counting.{bottom_up, stack_of, lengths_of, counts_of, counted, counted_more, moved, top, stacked, turned_stack, waiting_more, advanced}
+use Rattle.draft.specs.Counting.{stack_of, lengths_of, counts_of, counted, counted_more, moved, top, stacked, turned_stack, waiting_more, advanced}
 use Rattle.draft.specs.Stacking.{Turns}
 use Rattle.draft.proofs.Stepping.{Admits}
 
 -- a statement begins and ends no body
-pub statement_stays : (s : Statement) (o : Open) → open_after (statement_motion s) o ≡ o
-statement_stays statement.Emit o = refl
+pub statement_stays : (s : Statement) (o : Option BodyKind) → open_after (statement_motion s) o ≡ o
 statement_stays statement.Block o = refl
-statement_stays statement.If o = refl
-statement_stays statement.Switch o = refl
-statement_stays statement.Loop o = refl
-statement_stays statement.Break o = refl
-statement_stays statement.Continue o = refl
-statement_stays statement.Return o = refl
-statement_stays statement.Kill o = refl
-statement_stays statement.ControlBarrier o = refl
-statement_stays statement.MemoryBarrier o = refl
-statement_stays statement.Store o = refl
-statement_stays statement.ImageStore o = refl
-statement_stays statement.Atomic o = refl
-statement_stays statement.ImageAtomic o = refl
-statement_stays statement.WorkGroupUniformLoad o = refl
-statement_stays statement.Call o = refl
-statement_stays statement.RayQuery o = refl
-statement_stays statement.RayPipelineFunction o = refl
-statement_stays statement.SubgroupBallot o = refl
-statement_stays statement.SubgroupGather o = refl
-statement_stays statement.SubgroupCollectiveOperation o = refl
-statement_stays statement.CooperativeStore o = refl
+statement_stays s o = refl
 
 statement_counts : (s : Statement) (x : Lengths) → moved x (statement_motion s) ≡ x
-statement_counts statement.Emit x = refl
 statement_counts statement.Block x = refl
-statement_counts statement.If x = refl
-statement_counts statement.Switch x = refl
-statement_counts statement.Loop x = refl
-statement_counts statement.Break x = refl
-statement_counts statement.Continue x = refl
-statement_counts statement.Return x = refl
-statement_counts statement.Kill x = refl
-statement_counts statement.ControlBarrier x = refl
-statement_counts statement.MemoryBarrier x = refl
-statement_counts statement.Store x = refl
-statement_counts statement.ImageStore x = refl
-statement_counts statement.Atomic x = refl
-statement_counts statement.ImageAtomic x = refl
-statement_counts statement.WorkGroupUniformLoad x = refl
-statement_counts statement.Call x = refl
-statement_counts statement.RayQuery x = refl
-statement_counts statement.RayPipelineFunction x = refl
-statement_counts statement.SubgroupBallot x = refl
-statement_counts statement.SubgroupGather x = refl
-statement_counts statement.SubgroupCollectiveOperation x = refl
-statement_counts statement.CooperativeStore x = refl
+statement_counts s x = refl
 
-module _ (m : Module) (b : Body) (bs : List Bracket) (w : Waits) (ws : List Record) (n u : ℕ) (r : Record) where
-  abbrev at : Open → State
+module _ (m : Module) (b : Body) (bs : List Bracket) (w : Option Pieces) (ws : List Record) (n u : ℕ) (r : Record) where
+  abbrev at : Option BodyKind → State
   at o = record { built = m; opened = o; body = b; brackets = bs; waits = w; waiting = ws; kept = n; used = u }
 
-  lengths_at : (k : Kind) (o : Open) → on_side o (manner_of k).side ≡ true → lengths_of (stepped k r (at o)) ≡ moved (counted_more (lengths_of (at o)) (table_in o (manner_of k).table)) (manner_of k).motion
-  lengths_at kind.Member o h = refl
-  lengths_at kind.Operand o h = refl
+  lengths_at : (k : Kind) (o : Option BodyKind) → on_side o (manner_of k).side ≡ true → lengths_of (stepped k r (at o)) ≡ moved (counted_more (lengths_of (at o)) (table_in o (manner_of k).table)) (manner_of k).motion
   lengths_at kind.Override o h = cc (length_push m.overrides _)
   lengths_at kind.Constant o h = cc (length_push m.constants _)
   lengths_at kind.GlobalVariable o h = cc (length_push m.globals _)
-  lengths_at kind.SpecialTypes o h = refl
-  lengths_at kind.Predeclared o h = refl
   lengths_at kind.Filter o h = cc (length_push m.filters _)
-  lengths_at kind.Leaf o h = refl
-  lengths_at kind.Function open_body.Nothing h = let e : length m.functions + 1 ≡ length m.functions + 0 + 1 = omega arith in cc
-  lengths_at kind.Function open_body.Function h = let z : ◌≡◌ {A = ℕ} 0 1 = cc in absurd (omega arith)
-  lengths_at kind.Function open_body.EntryPoint h = let z : ◌≡◌ {A = ℕ} 0 1 = cc in absurd (omega arith)
-  lengths_at kind.EntryPoint open_body.Nothing h = let e : length m.entries + 1 ≡ length m.entries + 0 + 1 = omega arith in cc
-  lengths_at kind.EntryPoint open_body.Function h = let z : ◌≡◌ {A = ℕ} 0 1 = cc in absurd (omega arith)
-  lengths_at kind.EntryPoint open_body.EntryPoint h = let z : ◌≡◌ {A = ℕ} 0 1 = cc in absurd (omega arith)
-  lengths_at kind.FunctionArgument o h = refl
-  lengths_at kind.FunctionResult o h = refl
+  lengths_at kind.Function None h = let e : length m.functions + 1 ≡ length m.functions + 0 + 1 = omega arith in cc
+  lengths_at kind.Function (Some k) h = absurd cc
+  lengths_at kind.EntryPoint None h = let e : length m.entries + 1 ≡ length m.entries + 0 + 1 = omega arith in cc
+  lengths_at kind.EntryPoint (Some k) h = absurd cc
   lengths_at kind.LocalVariable o h = cc (length_push b.locals _)
   lengths_at (kind.Type t) o h = cc (length_push m.types _)
-  lengths_at kind.Named o h = refl
-  lengths_at kind.EndFunction open_body.Nothing h = let z : ◌≡◌ {A = ℕ} 0 1 = cc in absurd (omega arith)
-  lengths_at kind.EndFunction open_body.Function h = let e : length (m.functions ++ closed b (item_of (at open_body.Function) r) ∷ []) + 0 ≡ length m.functions + 1 = let l = length_push m.functions (closed b (item_of (at open_body.Function) r)) in omega arith in cc
-  lengths_at kind.EndFunction open_body.EntryPoint h = let e : length (m.entries ++ closed b (item_of (at open_body.EntryPoint) r) ∷ []) + 0 ≡ length m.entries + 1 = let l = length_push m.entries (closed b (item_of (at open_body.EntryPoint) r)) in omega arith in cc
-  lengths_at (kind.Expression e) open_body.Nothing h = cc (length_push m.expressions _)
-  lengths_at (kind.Expression e) open_body.Function h = cc (length_push b.expressions _)
-  lengths_at (kind.Expression e) open_body.EntryPoint h = cc (length_push b.expressions _)
+  lengths_at kind.EndFunction None h = absurd cc
+  lengths_at kind.EndFunction (Some body_kind.Function) h = let e : length (m.functions ++ closed b (item_of (at (Some body_kind.Function)) r) ∷ []) + 0 ≡ length m.functions + 1 = let l = length_push m.functions (closed b (item_of (at (Some body_kind.Function)) r)) in omega arith in cc
+  lengths_at kind.EndFunction (Some body_kind.EntryPoint) h = let e : length (m.entries ++ closed b (item_of (at (Some body_kind.EntryPoint)) r) ∷ []) + 0 ≡ length m.entries + 1 = let l = length_push m.entries (closed b (item_of (at (Some body_kind.EntryPoint)) r)) in omega arith in cc
+  lengths_at (kind.Expression e) None h = cc (length_push m.expressions _)
+  lengths_at (kind.Expression e) (Some k) h = cc (length_push b.expressions _)
   lengths_at (kind.Statement c) o h = let e : open_after (statement_motion c) o ≡ o = statement_stays c o in let f : moved (lengths_of (at o)) (statement_motion c) ≡ lengths_of (at o) = statement_counts c (lengths_of (at o)) in cc
-  lengths_at kind.End o h = refl
-  lengths_at kind.EndLoop o h = refl
-  lengths_at kind.Case o h = refl
-  lengths_at kind.EndSwitch o h = refl
+  lengths_at k o h = refl
 
 pub lengths_after : (s : State) (r : Record) (k : Kind) → on_side s.opened (manner_of k).side ≡ true → lengths_of (stepped k r s) ≡ moved (counted_more (lengths_of s) (table_in s.opened (manner_of k).table)) (manner_of k).motion
 lengths_after s r k h = lengths_at s.built s.body s.brackets s.waits s.waiting s.kept s.used r k s.opened h
 
 pub counted_is : (s : State) (t : SlotTable) → counted (lengths_of s) t ≡ number_of_next t s
-counted_is s table.Unnumbered = refl
-counted_is s table.Taken = refl
 counted_is s table.Types = refl
-counted_is s table.Overrides = refl
-counted_is s table.Constants = refl
-counted_is s table.GlobalVariables = refl
-counted_is s table.Filters = refl
-counted_is s table.Expressions = refl
-counted_is s table.Functions = refl
-counted_is s table.EntryPoints = refl
-counted_is s table.LocalVariables = refl
-counted_is s table.LocalExpressions = refl
+counted_is s t = refl
 
-waiting_is : (w : Waits) (ws : List Record) (r : Record) → length (waiting_after w ws r) ≡ waiting_more w (length ws)
-waiting_is waits.Nothing ws r = refl
-waiting_is waits.Members ws r = length_push ws r
-waiting_is waits.Operands ws r = length_push ws r
-
-bottom_length : (bs : List Bracket) → length (bottom_up bs) ≡ length bs
-bottom_length [] = refl
-bottom_length (b ∷ bs) = length_push (bottom_up bs) b ∙ ap (λ n. n + 1) (bottom_length bs) ∙ omega arith
+waiting_is : (w : Option Pieces) (ws : List Record) (r : Record) → length (waiting_after w ws r) ≡ waiting_more w (length ws)
+waiting_is None ws r = refl
+waiting_is (Some p) ws r = length_push ws r
 
 -- the array of one bracket more
-cons_places : (b : Bracket) (bs : List Bracket) → (stack_of (b ∷ bs)).places ≡ bottom_up bs ++ b ∷ replicate (64 - suc (length bs)) bracket.Block
-cons_places b bs = append_assoc (bottom_up bs) (b ∷ []) (replicate (64 - suc (length bs)) bracket.Block)
+cons_places : (b : Bracket) (bs : List Bracket) → (stack_of (b ∷ bs)).places ≡ reverse bs ++ b ∷ replicate (64 - suc (length bs)) bracket.Block
+cons_places b bs = ap (λ l. l ++ replicate (64 - suc (length bs)) bracket.Block) (reverse-append (b ∷ []) bs) ∙ append_assoc (reverse bs) (b ∷ []) (replicate (64 - suc (length bs)) bracket.Block)
 
-free_places : (bs : List Bracket) → length bs < 64 → (stack_of bs).places ≡ bottom_up bs ++ bracket.Block ∷ replicate (64 - suc (length bs)) bracket.Block
-free_places bs h = let e : 64 - length bs ≡ suc (64 - suc (length bs)) = omega arith in ap (λ n. bottom_up bs ++ replicate n bracket.Block) e
+free_places : (bs : List Bracket) → length bs < 64 → (stack_of bs).places ≡ reverse bs ++ bracket.Block ∷ replicate (64 - suc (length bs)) bracket.Block
+free_places bs h = let e : 64 - length bs ≡ suc (64 - suc (length bs)) = omega arith in ap (λ n. reverse bs ++ replicate n bracket.Block) e
 
 pub top_is : (bs : List Bracket) → top (stack_of bs) ≡ innermost bs
 top_is [] = refl
@@ -155,48 +83,34 @@ top_is (b ∷ bs) =
     cond-false _ _ _ some
     ∙ ap (λ n. Some (get_or (stack_of (b ∷ bs)).places n bracket.Block)) e
     ∙ ap (λ ps. Some (get_or ps (length bs) bracket.Block)) (cons_places b bs)
-    ∙ ap Some (get_or_at (bottom_up bs) b (replicate (64 - suc (length bs)) bracket.Block) bracket.Block (length bs) (bottom_length bs))
+    ∙ ap Some (get_or_at (reverse bs) b (replicate (64 - suc (length bs)) bracket.Block) bracket.Block (length bs) (length-reverse bs))
 
 pub stacked_is : (bs : List Bracket) (t : Turn) → Turns (length bs) t → stack_of (turned (Some t) bs) ≡ stacked (stack_of bs) t
 stacked_is bs Keep h = refl
 stacked_is bs (Push x) h =
-    let e : (stack_of (x ∷ bs)).places ≡ set (stack_of bs).places (length bs) x = cons_places x bs ∙ sym (ap (λ ps. set ps (length bs) x) (free_places bs h) ∙ set_at (bottom_up bs) bracket.Block (replicate (64 - suc (length bs)) bracket.Block) x (length bs) (bottom_length bs)) in
+    let e : (stack_of (x ∷ bs)).places ≡ set (stack_of bs).places (length bs) x = cons_places x bs ∙ sym (ap (λ ps. set ps (length bs) x) (free_places bs h) ∙ set_at (reverse bs) bracket.Block (replicate (64 - suc (length bs)) bracket.Block) x (length bs) (length-reverse bs)) in
     let f : suc (length bs) ≡ length bs + 1 = omega arith in
     cc
 stacked_is [] (Swap x) h = absurd (omega arith)
 stacked_is (y ∷ bs) (Swap x) h =
     let n : suc (length bs) - 1 ≡ length bs = omega arith in
-    let e : (stack_of (x ∷ bs)).places ≡ set (stack_of (y ∷ bs)).places (suc (length bs) - 1) x = cons_places x bs ∙ sym (ap (λ k. set (stack_of (y ∷ bs)).places k x) n ∙ ap (λ ps. set ps (length bs) x) (cons_places y bs) ∙ set_at (bottom_up bs) y (replicate (64 - suc (length bs)) bracket.Block) x (length bs) (bottom_length bs)) in
+    let e : (stack_of (x ∷ bs)).places ≡ set (stack_of (y ∷ bs)).places (suc (length bs) - 1) x = cons_places x bs ∙ sym (ap (λ k. set (stack_of (y ∷ bs)).places k x) n ∙ ap (λ ps. set ps (length bs) x) (cons_places y bs) ∙ set_at (reverse bs) y (replicate (64 - suc (length bs)) bracket.Block) x (length bs) (length-reverse bs)) in
     cc
 stacked_is [] Pop h = absurd (omega arith)
 stacked_is (y ∷ bs) Pop h =
     let n : suc (length bs) - 1 ≡ length bs = omega arith in
     let l : length bs < 64 = omega arith in
-    let e : (stack_of bs).places ≡ set (stack_of (y ∷ bs)).places (suc (length bs) - 1) bracket.Block = free_places bs l ∙ sym (ap (λ k. set (stack_of (y ∷ bs)).places k bracket.Block) n ∙ ap (λ ps. set ps (length bs) bracket.Block) (cons_places y bs) ∙ set_at (bottom_up bs) y (replicate (64 - suc (length bs)) bracket.Block) bracket.Block (length bs) (bottom_length bs)) in
+    let e : (stack_of bs).places ≡ set (stack_of (y ∷ bs)).places (suc (length bs) - 1) bracket.Block = free_places bs l ∙ sym (ap (λ k. set (stack_of (y ∷ bs)).places k bracket.Block) n ∙ ap (λ ps. set ps (length bs) bracket.Block) (cons_places y bs) ∙ set_at (reverse bs) y (replicate (64 - suc (length bs)) bracket.Block) bracket.Block (length bs) (length-reverse bs)) in
     cc
 
 -- outside of every bracket none turns or ends
 none_swaps : (m : Motion) (b : Bracket) → turn_of None m ≡ Some (Swap b) → ⊥
-none_swaps motion.Stay b h = let z : ◌≡◌ {A = ℕ} 0 1 = cc in absurd (omega arith)
-none_swaps (motion.Begin o) b h = let z : ◌≡◌ {A = ℕ} 0 1 = cc in absurd (omega arith)
-none_swaps motion.Finish b h = let z : ◌≡◌ {A = ℕ} 0 1 = cc in absurd (omega arith)
-none_swaps motion.Statement b h = let z : ◌≡◌ {A = ℕ} 0 1 = cc in absurd (omega arith)
-none_swaps (motion.Enter c) b h = let z : ◌≡◌ {A = ℕ} 0 1 = cc in absurd (omega arith)
-none_swaps motion.End b h = let z : ◌≡◌ {A = ℕ} 0 1 = cc in absurd (omega arith)
-none_swaps motion.EndLoop b h = let z : ◌≡◌ {A = ℕ} 0 1 = cc in absurd (omega arith)
-none_swaps motion.Case b h = let z : ◌≡◌ {A = ℕ} 0 1 = cc in absurd (omega arith)
-none_swaps motion.EndSwitch b h = let z : ◌≡◌ {A = ℕ} 0 1 = cc in absurd (omega arith)
+none_swaps motion.Stay b h = absurd cc
+none_swaps m b h = absurd cc
 
 none_pops : (m : Motion) → turn_of None m ≡ Some Pop → ⊥
-none_pops motion.Stay h = let z : ◌≡◌ {A = ℕ} 0 1 = cc in absurd (omega arith)
-none_pops (motion.Begin o) h = let z : ◌≡◌ {A = ℕ} 0 1 = cc in absurd (omega arith)
-none_pops motion.Finish h = let z : ◌≡◌ {A = ℕ} 0 1 = cc in absurd (omega arith)
-none_pops motion.Statement h = let z : ◌≡◌ {A = ℕ} 0 1 = cc in absurd (omega arith)
-none_pops (motion.Enter c) h = let z : ◌≡◌ {A = ℕ} 0 1 = cc in absurd (omega arith)
-none_pops motion.End h = let z : ◌≡◌ {A = ℕ} 0 1 = cc in absurd (omega arith)
-none_pops motion.EndLoop h = let z : ◌≡◌ {A = ℕ} 0 1 = cc in absurd (omega arith)
-none_pops motion.Case h = let z : ◌≡◌ {A = ℕ} 0 1 = cc in absurd (omega arith)
-none_pops motion.EndSwitch h = let z : ◌≡◌ {A = ℕ} 0 1 = cc in absurd (omega arith)
+none_pops motion.Stay h = absurd cc
+none_pops m h = absurd cc
 
 pub turns_fit : (bs : List Bracket) (m : Motion) (t : Turn) → turn_of (innermost bs) m ≡ Some t → deepens (Some t) (length bs) ≡ false → length bs ≤ 64 → Turns (length bs) t
 turns_fit bs m Keep e d h = h

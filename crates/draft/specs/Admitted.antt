@@ -6,9 +6,9 @@ use Rattle.records.specs.declared.judge.Flaw.{Flaw}
 use Rattle.records.specs.Record.{flaw_number, judged}
 use Rattle.draft.specs.declared.refusal.Refusal.{Refusal}
 use Rattle.draft.specs.declared.refusal.Refusal.TheVariants.{Flawed, Misplaced, TooDeep, Full}
-use Rattle.draft.specs.declared.state.Open.{Open}
+use Rattle.draft.specs.declared.state.BodyKind.{BodyKind}
 use Rattle.draft.specs.declared.state.Bracket.{Bracket}
-use Rattle.draft.specs.declared.state.Waits.{Waits}
+use Rattle.draft.specs.declared.state.Pieces.{Pieces}
 use Rattle.rules.specs.Module.{Record}
 use Rattle.draft.specs.Manner.{manner_of, turn_of}
 use Rattle.draft.specs.State.{State, step, innermost, fits_in, deepens}
@@ -21,7 +21,7 @@ refusal_number TooDeep = 5
 refusal_number Full = 6
 
 -- the kind of a record that may come next, or why none may: out of place comes before too deep
-module _ (w : Waits) (o : Open) (inner : Option Bracket) (depth : ℕ) where
+module _ (w : Option Pieces) (o : Option BodyKind) (inner : Option Bracket) (depth : ℕ) where
   abbrev pub placed_with : Kind → Result Kind Refusal
   placed_with k = cond (fits_in w o inner (manner_of k)) (cond (deepens (turn_of inner (manner_of k).motion) depth) (Err TooDeep) (Ok k)) (Err Misplaced)
 

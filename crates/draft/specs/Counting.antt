@@ -1,9 +1,8 @@
 -- The counts of a draft, and how a record changes them.
-use Rattle.std.specs.Prelude.{ℕ, ◌+◌, ◌-◌, cond, List, [], ◌∷◌, ◌++◌, length, replicate, Some, None, Option, ◌==◌, slice_index_or, slice_set}
+use Rattle.std.specs.Prelude.{ℕ, ◌+◌, ◌-◌, cond, List, ◌++◌, length, reverse, replicate, Some, None, Option, ◌==◌, slice_index_or, slice_set}
 use Rattle.draft.specs.declared.state.Bracket.{Bracket}
 use Rattle.draft.specs.declared.state.Bracket.TheVariants as bracket
-use Rattle.draft.specs.declared.state.Waits.{Waits}
-use Rattle.draft.specs.declared.state.Waits.TheVariants as waits
+use Rattle.draft.specs.declared.state.Pieces.{Pieces}
 use Rattle.draft.specs.declared.state.SlotTable.{SlotTable}
 use Rattle.draft.specs.declared.state.SlotTable.TheVariants as table
 use Rattle.draft.specs.declared.manner.Motion.{Motion}
@@ -17,14 +16,9 @@ use Rattle.draft.specs.declared.counts.Counts.{Counts}
 use Rattle.draft.specs.Manner.{turn_of}
 use Rattle.draft.specs.State.{State, number_of_next, table_in, open_after}
 
--- the outermost first
-abbrev pub bottom_up : List Bracket → List Bracket
-bottom_up [] = []
-bottom_up (b ∷ bs) = bottom_up bs ++ b ∷ []
-
--- the open brackets as they stand in their array
+-- the open brackets as they stand in their array, the outermost first
 abbrev pub stack_of : List Bracket → Brackets
-stack_of bs = record { places = bottom_up bs ++ replicate (64 - length bs) bracket.Block; depth = length bs }
+stack_of bs = record { places = reverse bs ++ replicate (64 - length bs) bracket.Block; depth = length bs }
 
 abbrev pub lengths_of : State → Lengths
 lengths_of s = record {
@@ -63,31 +57,25 @@ counted c table.LocalExpressions = c.inner
 abbrev pub counted_more : Lengths → SlotTable → Lengths
 counted_more c table.Unnumbered = c
 counted_more c table.Taken = c
-counted_more c table.Types = record { types = c.types + 1; overrides = c.overrides; constants = c.constants; globals = c.globals; filters = c.filters; expressions = c.expressions; functions = c.functions; entries = c.entries; locals = c.locals; inner = c.inner }
-counted_more c table.Overrides = record { types = c.types; overrides = c.overrides + 1; constants = c.constants; globals = c.globals; filters = c.filters; expressions = c.expressions; functions = c.functions; entries = c.entries; locals = c.locals; inner = c.inner }
-counted_more c table.Constants = record { types = c.types; overrides = c.overrides; constants = c.constants + 1; globals = c.globals; filters = c.filters; expressions = c.expressions; functions = c.functions; entries = c.entries; locals = c.locals; inner = c.inner }
-counted_more c table.GlobalVariables = record { types = c.types; overrides = c.overrides; constants = c.constants; globals = c.globals + 1; filters = c.filters; expressions = c.expressions; functions = c.functions; entries = c.entries; locals = c.locals; inner = c.inner }
-counted_more c table.Filters = record { types = c.types; overrides = c.overrides; constants = c.constants; globals = c.globals; filters = c.filters + 1; expressions = c.expressions; functions = c.functions; entries = c.entries; locals = c.locals; inner = c.inner }
-counted_more c table.Expressions = record { types = c.types; overrides = c.overrides; constants = c.constants; globals = c.globals; filters = c.filters; expressions = c.expressions + 1; functions = c.functions; entries = c.entries; locals = c.locals; inner = c.inner }
-counted_more c table.Functions = record { types = c.types; overrides = c.overrides; constants = c.constants; globals = c.globals; filters = c.filters; expressions = c.expressions; functions = c.functions + 1; entries = c.entries; locals = c.locals; inner = c.inner }
-counted_more c table.EntryPoints = record { types = c.types; overrides = c.overrides; constants = c.constants; globals = c.globals; filters = c.filters; expressions = c.expressions; functions = c.functions; entries = c.entries + 1; locals = c.locals; inner = c.inner }
-counted_more c table.LocalVariables = record { types = c.types; overrides = c.overrides; constants = c.constants; globals = c.globals; filters = c.filters; expressions = c.expressions; functions = c.functions; entries = c.entries; locals = c.locals + 1; inner = c.inner }
-counted_more c table.LocalExpressions = record { types = c.types; overrides = c.overrides; constants = c.constants; globals = c.globals; filters = c.filters; expressions = c.expressions; functions = c.functions; entries = c.entries; locals = c.locals; inner = c.inner + 1 }
+counted_more c table.Types = record c { types = c.types + 1 }
+counted_more c table.Overrides = record c { overrides = c.overrides + 1 }
+counted_more c table.Constants = record c { constants = c.constants + 1 }
+counted_more c table.GlobalVariables = record c { globals = c.globals + 1 }
+counted_more c table.Filters = record c { filters = c.filters + 1 }
+counted_more c table.Expressions = record c { expressions = c.expressions + 1 }
+counted_more c table.Functions = record c { functions = c.functions + 1 }
+counted_more c table.EntryPoints = record c { entries = c.entries + 1 }
+counted_more c table.LocalVariables = record c { locals = c.locals + 1 }
+counted_more c table.LocalExpressions = record c { inner = c.inner + 1 }
 
 -- a body's own tables begin empty, and end with it
 abbrev pub cleared : Lengths → Lengths
-cleared c = record { types = c.types; overrides = c.overrides; constants = c.constants; globals = c.globals; filters = c.filters; expressions = c.expressions; functions = c.functions; entries = c.entries; locals = 0; inner = 0 }
+cleared c = record c { locals = 0; inner = 0 }
 
 abbrev pub moved : Lengths → Motion → Lengths
-moved c motion.Stay = c
 moved c (motion.Begin o) = cleared c
 moved c motion.Finish = cleared c
-moved c motion.Statement = c
-moved c (motion.Enter b) = c
-moved c motion.End = c
-moved c motion.EndLoop = c
-moved c motion.Case = c
-moved c motion.EndSwitch = c
+moved c m = c
 
 -- the innermost bracket
 abbrev pub top : Brackets → Option Bracket
@@ -103,10 +91,9 @@ abbrev pub turned_stack : Brackets → Option Turn → Brackets
 turned_stack b None = b
 turned_stack b (Some t) = stacked b t
 
-abbrev pub waiting_more : Waits → ℕ → ℕ
-waiting_more waits.Nothing n = 0
-waiting_more waits.Members n = n + 1
-waiting_more waits.Operands n = n + 1
+abbrev pub waiting_more : Option Pieces → ℕ → ℕ
+waiting_more None n = 0
+waiting_more (Some p) n = n + 1
 
 -- the counts after one more record of this size
 abbrev pub advanced : Counts → ℕ → Manner → Counts
@@ -122,4 +109,4 @@ advanced d size m = record {
 
 -- the counts without what waits, which begins here
 abbrev pub freed : Counts → ℕ → Counts
-freed d from = record { kept = d.kept - d.waiting; used = from; lengths = d.lengths; opened = d.opened; brackets = d.brackets; waits = waits.Nothing; waiting = 0 }
+freed d from = record d { kept = d.kept - d.waiting; used = from; waits = None; waiting = 0 }

@@ -1,36 +1,22 @@
 //! How the records of each kind behave.
-ghost use Rattle.std.specs.Prelude.{◌≡◌};
-ghost use Rattle.draft.specs.Manner.{taken_by_type, taken_by_expression, taken_by_statement, statement_motion, outside_as, inside_as, waiting_as, taking_as, manner_of, turn_of};
+ghost use Rattle.std.specs.Prelude.{◌≡◌, Some, None};
+ghost use Rattle.draft.specs.Manner.{statement_motion, outside_as, inside_as, waiting_as, taking_as, manner_of, turn_of};
 ghost use Rattle.draft.specs.State.{meets, on_side, open_after, table_in};
 
 use crate::manner::{Manner, Motion, Side, Turn};
-use crate::state::{Bracket, Open, SlotTable, Waits};
+use crate::state::{BodyKind, Bracket, Pieces, SlotTable};
 use ir::kinds::{Expression, Kind, Statement, TypeInner};
 
-fn type_takes(inner: TypeInner) -> Waits
-    ensures { result ≡ taken_by_type inner }
+/// What a record takes: a Struct members, a Compose and a Call operands.
+fn takes(kind: Kind) -> Option<Pieces>
+    ensures { result ≡ (manner_of kind).takes }
 {
-    match inner {
-        TypeInner::Struct => Waits::Members,
-        _ => Waits::Nothing,
-    }
-}
-
-fn expression_takes(expression: Expression) -> Waits
-    ensures { result ≡ taken_by_expression expression }
-{
-    match expression {
-        Expression::Compose => Waits::Operands,
-        _ => Waits::Nothing,
-    }
-}
-
-fn statement_takes(statement: Statement) -> Waits
-    ensures { result ≡ taken_by_statement statement }
-{
-    match statement {
-        Statement::Call => Waits::Operands,
-        _ => Waits::Nothing,
+    match kind {
+        Kind::Type(TypeInner::Struct) => Some(Pieces::Members),
+        Kind::Expression(Expression::Compose) | Kind::Statement(Statement::Call) => {
+            Some(Pieces::Operands)
+        }
+        _ => None,
     }
 }
 
@@ -48,24 +34,24 @@ fn statement_motion(statement: Statement) -> Motion
 
 /// A record that stands outside of bodies, where nothing waits.
 fn outside(motion: Motion, table: SlotTable) -> Manner
-    ensures { result ≡ outside_as Waits.Nothing motion table }
+    ensures { result ≡ outside_as None motion table }
 {
     Manner {
         side: Side::Outside,
-        joins: Waits::Nothing,
-        takes: Waits::Nothing,
+        joins: None,
+        takes: None,
         motion,
         table,
     }
 }
 
 /// A record that stands in a body.
-fn inside(takes: Waits, motion: Motion, table: SlotTable) -> Manner
+fn inside(takes: Option<Pieces>, motion: Motion, table: SlotTable) -> Manner
     ensures { result ≡ inside_as takes motion table }
 {
     Manner {
         side: Side::Inside,
-        joins: Waits::Nothing,
+        joins: None,
         takes,
         motion,
         table,
@@ -73,25 +59,25 @@ fn inside(takes: Waits, motion: Motion, table: SlotTable) -> Manner
 }
 
 /// A record that waits for its taker.
-fn waiting(side: Side, joins: Waits) -> Manner
-    ensures { result ≡ waiting_as side joins }
+fn waiting(side: Side, joins: Pieces) -> Manner
+    ensures { result ≡ waiting_as side (Some joins) }
 {
     Manner {
         side,
-        joins,
-        takes: Waits::Nothing,
+        joins: Some(joins),
+        takes: None,
         motion: Motion::Stay,
         table: SlotTable::Taken,
     }
 }
 
 /// A type or an expression.
-fn taking(side: Side, takes: Waits, table: SlotTable) -> Manner
+fn taking(side: Side, takes: Option<Pieces>, table: SlotTable) -> Manner
     ensures { result ≡ taking_as side takes table }
 {
     Manner {
         side,
-        joins: Waits::Nothing,
+        joins: None,
         takes,
         motion: Motion::Stay,
         table,
@@ -104,39 +90,32 @@ pub fn manner(kind: Kind) -> Manner
 {
     let stay = Motion::Stay;
     let none = SlotTable::Unnumbered;
-    let free = Waits::Nothing;
     match kind {
-        Kind::Member => waiting(Side::Outside, Waits::Members),
-        Kind::Operand => waiting(Side::Anywhere, Waits::Operands),
+        Kind::Member => waiting(Side::Outside, Pieces::Members),
+        Kind::Operand => waiting(Side::Anywhere, Pieces::Operands),
         Kind::Override => outside(stay, SlotTable::Overrides),
         Kind::Constant => outside(stay, SlotTable::Constants),
         Kind::GlobalVariable => outside(stay, SlotTable::GlobalVariables),
         Kind::SpecialTypes | Kind::Predeclared | Kind::Leaf => outside(stay, none),
         Kind::Filter => outside(stay, SlotTable::Filters),
-        Kind::Function => outside(Motion::Begin(Open::Function), SlotTable::Functions),
-        Kind::EntryPoint => outside(Motion::Begin(Open::EntryPoint), SlotTable::EntryPoints),
-        Kind::FunctionArgument | Kind::FunctionResult | Kind::Named => inside(free, stay, none),
-        Kind::LocalVariable => inside(free, stay, SlotTable::LocalVariables),
-        Kind::Type(inner) => taking(Side::Outside, type_takes(inner), SlotTable::Types),
-        Kind::EndFunction => inside(free, Motion::Finish, none),
-        Kind::Expression(expression) => {
-            taking(
-                Side::Anywhere,
-                expression_takes(expression),
-                SlotTable::Expressions,
-            )
-        }
-        Kind::Statement(statement) => {
-            inside(
-                statement_takes(statement),
-                statement_motion(statement),
-                none,
-            )
-        }
-        Kind::End => inside(free, Motion::End, none),
-        Kind::EndLoop => inside(free, Motion::EndLoop, none),
-        Kind::Case => inside(free, Motion::Case, none),
-        Kind::EndSwitch => inside(free, Motion::EndSwitch, none),
+        Kind::Function => outside(
+            Motion::Begin(Some(BodyKind::Function)),
+            SlotTable::Functions,
+        ),
+        Kind::EntryPoint => outside(
+            Motion::Begin(Some(BodyKind::EntryPoint)),
+            SlotTable::EntryPoints,
+        ),
+        Kind::FunctionArgument | Kind::FunctionResult | Kind::Named => inside(None, stay, none),
+        Kind::LocalVariable => inside(None, stay, SlotTable::LocalVariables),
+        Kind::Type(_) => taking(Side::Outside, takes(kind), SlotTable::Types),
+        Kind::EndFunction => inside(None, Motion::Finish, none),
+        Kind::Expression(_) => taking(Side::Anywhere, takes(kind), SlotTable::Expressions),
+        Kind::Statement(statement) => inside(takes(kind), statement_motion(statement), none),
+        Kind::End => inside(None, Motion::End, none),
+        Kind::EndLoop => inside(None, Motion::EndLoop, none),
+        Kind::Case => inside(None, Motion::Case, none),
+        Kind::EndSwitch => inside(None, Motion::EndSwitch, none),
     }
 }
 
@@ -161,46 +140,40 @@ pub(crate) fn turn(innermost: Option<Bracket>, motion: Motion) -> Option<Turn>
 }
 
 /// Whether a record joins or takes what waits.
-pub(crate) fn meets_what_waits(waits: Waits, manner: Manner) -> bool
+pub(crate) fn meets_what_waits(waits: Option<Pieces>, manner: Manner) -> bool
     ensures { result ≡ meets waits manner }
 {
-    match (waits, manner.joins, manner.takes) {
-        (Waits::Nothing, _, _) => true,
-        (Waits::Members, Waits::Members, _) | (Waits::Members, _, Waits::Members) => true,
-        (Waits::Operands, Waits::Operands, _) | (Waits::Operands, _, Waits::Operands) => true,
-        _ => false,
-    }
+    waits.is_none() || manner.joins == waits || manner.takes == waits
 }
 
 /// Whether it may stand inside of a body, or outside of every one.
-pub(crate) fn is_on_side(opened: Open, side: Side) -> bool
+pub(crate) fn is_on_side(opened: Option<BodyKind>, side: Side) -> bool
     ensures { result ≡ on_side opened side }
 {
-    match (opened, side) {
-        (_, Side::Anywhere) => true,
-        (Open::Nothing, Side::Outside) => true,
-        (Open::Function | Open::EntryPoint, Side::Inside) => true,
-        _ => false,
+    match side {
+        Side::Outside => opened.is_none(),
+        Side::Inside => opened.is_some(),
+        Side::Anywhere => true,
     }
 }
 
 /// The body that is open after a record.
-pub(crate) fn opened_after(motion: Motion, opened: Open) -> Open
+pub(crate) fn opened_after(motion: Motion, opened: Option<BodyKind>) -> Option<BodyKind>
     ensures { result ≡ open_after motion opened }
 {
     match motion {
         Motion::Begin(begun) => begun,
-        Motion::Finish => Open::Nothing,
+        Motion::Finish => None,
         _ => opened,
     }
 }
 
 /// The table of a record: an expression's is the open body's.
-pub fn table_in(opened: Open, table: SlotTable) -> SlotTable
+pub fn table_in(opened: Option<BodyKind>, table: SlotTable) -> SlotTable
     ensures { result ≡ table_in opened table }
 {
     match (opened, table) {
-        (Open::Function | Open::EntryPoint, SlotTable::Expressions) => SlotTable::LocalExpressions,
+        (Some(_), SlotTable::Expressions) => SlotTable::LocalExpressions,
         (_, table) => table,
     }
 }

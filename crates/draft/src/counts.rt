@@ -12,12 +12,12 @@ use crate::behaviour::{is_on_side, manner, meets_what_waits, opened_after, table
 use crate::manner::{Manner, Motion};
 use crate::refusal::Refusal;
 use crate::stack::Brackets;
-use crate::state::{Bracket, Open, SlotTable, Waits};
+use crate::state::{BodyKind, Pieces, SlotTable};
 use ir::kinds::Kind;
 use records::image::Record;
 
 /// How many items each table has.
-#[derive(Clone, Copy)]
+#[derive(Clone, Copy, PartialEq, Eq, Debug, Default)]
 pub struct Lengths {
     pub types: u32,
     pub overrides: u32,
@@ -38,9 +38,9 @@ pub struct Counts {
     pub kept: usize,
     pub used: usize,
     pub lengths: Lengths,
-    pub opened: Open,
+    pub opened: Option<BodyKind>,
     pub brackets: Brackets,
-    pub waits: Waits,
+    pub waits: Option<Pieces>,
     /// How many records wait.
     pub waiting: usize,
 }
@@ -66,6 +66,7 @@ impl Lengths {
     }
 
     /// Counts one more item.
+    // A match beside that of `next`: what lends a count to be written cannot serve `next`, which reads through a `&`.
     pub fn add(&mut self, table: SlotTable)
         requires { counted self.old table + 1 < 2 ^ 32 }
         ensures { self.new ≡ counted_more self.old table }
@@ -107,24 +108,10 @@ impl Counts {
         Counts {
             kept: 0,
             used: 0,
-            lengths: Lengths {
-                types: 0,
-                overrides: 0,
-                constants: 0,
-                globals: 0,
-                filters: 0,
-                expressions: 0,
-                functions: 0,
-                entries: 0,
-                locals: 0,
-                inner: 0,
-            },
-            opened: Open::Nothing,
-            brackets: Brackets {
-                places: [Bracket::Block; 64],
-                depth: 0,
-            },
-            waits: Waits::Nothing,
+            lengths: Lengths::default(),
+            opened: None,
+            brackets: Brackets::new(),
+            waits: None,
             waiting: 0,
         }
     }
@@ -134,10 +121,7 @@ impl Counts {
         requires { self.now.brackets.depth ≤ 64 }
         ensures { result ≡ admitted_with self.now.waits self.now.opened (top self.now.brackets) self.now.brackets.depth (judged bytes.now) }
     {
-        let kind = match (Record { bytes }).judge() {
-            Ok(kind) => kind,
-            Err(flaw) => return Err(Refusal::from(flaw)),
-        };
+        let kind = (Record { bytes }).judge()?;
         let ways = manner(kind);
         if !meets_what_waits(self.waits, ways) || !is_on_side(self.opened, ways.side) {
             return Err(Refusal::Misplaced);
@@ -164,9 +148,10 @@ impl Counts {
             self.brackets.apply(turn);
         }
         self.waits = manner.joins;
-        self.waiting = match manner.joins {
-            Waits::Nothing => 0,
-            _ => self.waiting + 1,
+        self.waiting = if manner.joins.is_some() {
+            self.waiting + 1
+        } else {
+            0
         };
     }
 }

@@ -1,8 +1,8 @@
 //! What there is to say of the behaviour of a kind of record.
-use crate::state::{Bracket, Open, SlotTable, Waits};
+use crate::state::{BodyKind, Bracket, Pieces, SlotTable};
 
 /// Where a record may stand.
-#[derive(Clone, Copy)]
+#[derive(Clone, Copy, PartialEq, Eq, Debug)]
 pub enum Side {
     Outside,
     Inside,
@@ -10,10 +10,11 @@ pub enum Side {
 }
 
 /// What a record does to the open body and its brackets.
-#[derive(Clone, Copy)]
+#[derive(Clone, Copy, PartialEq, Eq, Debug)]
 pub enum Motion {
     Stay,
-    Begin(Open),
+    /// From here on this body is open, or none.
+    Begin(Option<BodyKind>),
     Finish,
     Statement,
     Enter(Bracket),
@@ -24,7 +25,7 @@ pub enum Motion {
 }
 
 /// What becomes of the innermost bracket.
-#[derive(Clone, Copy)]
+#[derive(Clone, Copy, PartialEq, Eq, Debug)]
 pub enum Turn {
     Keep,
     Push(Bracket),
@@ -33,13 +34,13 @@ pub enum Turn {
 }
 
 /// How the records of a kind behave.
-#[derive(Clone, Copy)]
+#[derive(Clone, Copy, PartialEq, Eq, Debug)]
 pub struct Manner {
     pub side: Side,
     /// What it waits with, if it waits for its taker.
-    pub joins: Waits,
+    pub joins: Option<Pieces>,
     /// What it takes, if it takes what waits.
-    pub takes: Waits,
+    pub takes: Option<Pieces>,
     pub motion: Motion,
     pub table: SlotTable,
 }

@@ -20,6 +20,7 @@ pub enum Refusal {
 
 impl Refusal {
     /// The number of the refusal.
+    // No `From<Refusal> for u8`: `u8::from(refusal)` does not say which number it gives.
     pub fn number(self) -> u8
         ensures { result ≡ refusal_number self }
     {

@@ -1,13 +1,15 @@
 //! The brackets that are open.
-ghost use Rattle.std.specs.Prelude.{◌≡◌, ◌<◌, ◌≤◌, true, false, length, Some};
+ghost use Rattle.std.specs.Prelude.{◌≡◌, ◌<◌, ◌≤◌, true, false, [], length, Some};
 ghost use Rattle.draft.specs.State.{deepens};
-ghost use Rattle.draft.specs.Counting.{top, stacked};
+ghost use Rattle.draft.specs.Counting.{stack_of, top, stacked};
 ghost use Rattle.draft.specs.Stacking.{Turns};
 
 use crate::manner::Turn;
 use crate::state::Bracket;
 
 /// The open brackets, the innermost last; free places hold a filler.
+// An array and a depth: `Counts` is `Copy`, which the `ArrayVec` of the toolchain is not.
+// No ghost field holds `depth ≤ 64`: `stack_of` and `stacked` are total, and would have to be passed its proof.
 #[derive(Clone, Copy)]
 pub struct Brackets {
     pub places: [Bracket; 64],
@@ -15,17 +17,22 @@ pub struct Brackets {
 }
 
 impl Brackets {
+    /// Those of no records.
+    pub(crate) fn new() -> Brackets
+        ensures { result ≡ stack_of [] }
+    {
+        Brackets {
+            places: [Bracket::Block; 64],
+            depth: 0,
+        }
+    }
+
     /// The innermost bracket.
     pub(crate) fn innermost(&self) -> Option<Bracket>
         requires { self.now.depth ≤ 64 }
         ensures { result ≡ top self.now }
     {
-        let depth = self.depth;
-        if depth == 0 {
-            None
-        } else {
-            Some(self.places[depth - 1])
-        }
+        self.places[..self.depth].last().copied()
     }
 
     /// Whether the turn would open a 65th bracket.
@@ -38,6 +45,7 @@ impl Brackets {
         }
     }
 
+    /// Pushes, swaps or pops the innermost bracket.
     pub(crate) fn apply(&mut self, turn: Turn)
         requires { Turns self.old.depth turn }
         ensures { self.new ≡ stacked self.old turn }

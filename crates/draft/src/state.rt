@@ -1,15 +1,14 @@
 //! What a draft knows of the records that it has kept.
 
-/// Which body is open.
-#[derive(Clone, Copy)]
-pub enum Open {
-    Nothing,
+/// The kind of a body.
+#[derive(Clone, Copy, PartialEq, Eq, Debug)]
+pub enum BodyKind {
     Function,
     EntryPoint,
 }
 
 /// A bracket that is open, and which of its two halves where it has two.
-#[derive(Clone, Copy)]
+#[derive(Clone, Copy, PartialEq, Eq, Debug)]
 pub enum Bracket {
     Block,
     Accept,
@@ -20,17 +19,16 @@ pub enum Bracket {
     Continuing,
 }
 
-/// What waits for its taker.
-#[derive(Clone, Copy)]
-pub enum Waits {
-    Nothing,
+/// Records that wait for their taker: the members of a Struct, or the operands of a Compose or a Call.
+#[derive(Clone, Copy, PartialEq, Eq, Debug)]
+pub enum Pieces {
     Members,
     Operands,
 }
 
 /// The table that numbers a record. The last two are those of the open body; a record that waits for
 /// its taker is `Taken`.
-#[derive(Clone, Copy)]
+#[derive(Clone, Copy, PartialEq, Eq, Debug)]
 pub enum SlotTable {
     Unnumbered,
     Taken,

@@ -1,25 +1,36 @@
 //! Bytes written as pairs of hexadecimal digits.
 #![tactic(auto)]
 
+ghost use Rattle.std.specs.Prelude.{◌≡◌, ◌<◌, IfOk, IfSome};
+ghost use Rattle.hexadecimal.specs.Hexadecimal.{digit_of, byte_of, decoded};
+
 use std::alloc::{AllocError, Global};
 
-fn nibble(digit: u8) -> Option<u8> {
-    match digit {
-        b'0'..=b'9' => Some(digit - b'0'),
-        b'a'..=b'f' => Some(digit - b'a' + 10),
+/// What a lower-case digit stands for.
+fn digit(code: u8) -> Option<u8>
+    ensures value { result ≡ digit_of code }
+    ensures small { IfSome result (λ digit. digit < 16) }
+{
+    match code {
+        b'0'..=b'9' => Some(code - b'0'),
+        b'a'..=b'f' => Some(code - b'a' + 10),
         _ => None,
     }
 }
 
-/// The bytes that pairs of digits write; a pair that is none is left out.
-pub fn decode(heap: Global, text: &str) -> Result<Vec<u8>, AllocError> {
-    let mut bytes = Vec::new(heap);
-    for pair in text.as_bytes().chunks(2) {
-        if let [high, low] = pair {
-            if let (Some(high), Some(low)) = (nibble(*high), nibble(*low)) {
-                bytes.push((high << 4) | low)?;
-            }
-        }
-    }
-    Ok(bytes)
+/// The byte that a pair of digits writes.
+fn byte(pair: &[u8; 2]) -> Option<u8>
+    ensures { result ≡ byte_of pair.now }
+{
+    let [high, low] = *pair;
+    Some(digit(high)? * 16 + digit(low)?)
+}
+
+/// The bytes that pairs of digits write, from the front; a pair that is none is left out, and so is
+/// an odd last digit.
+pub fn decode(heap: Global, text: &str) -> Result<Vec<u8>, AllocError>
+    ensures { IfOk result (λ bytes. bytes.items ≡ decoded text.now) }
+{
+    let (pairs, _) = text.as_bytes().as_chunks();
+    pairs.iter().filter_map(byte).collect(heap)
 }

@@ -1,5 +1,5 @@
 -- One record more: every table keeps its items, and the item that the record makes is where its number says.
-use Rattle.std.proofs.Common.{◌≡◌, ℕ, ◌+◌, true, ◌⊎◌, List, [], ◌∷◌, ◌++◌, map, length, Some, sym, refl, ap, ◌∙◌, subst, inl, inr, ⊎_elim, arith}
+use Rattle.std.proofs.Common.{◌≡◌, ℕ, ◌+◌, true, ◌⊎◌, List, [], ◌∷◌, ◌++◌, map, length, Some, sym, refl, ap, ◌∙◌, subst, inl, inr, ⊎_elim, arith, None, Option}
 use Rattle.std.specs.List.{slice_get}
 use Rattle.std.proofs.lemmas.Bool.{and_parts}
 use Rattle.ir.specs.declared.handle.Handle.{Handle}
@@ -9,10 +9,10 @@ use Rattle.ir.specs.declared.kinds.Kind.{Kind}
 use Rattle.ir.specs.declared.kinds.Kind.TheVariants as kind
 use Rattle.ir.specs.Handle.{table_of as handle_table}
 use Rattle.rules.specs.Module.{Record, Item, Body, Module, opened_by, add_local, add_inner, closed}
-use Rattle.draft.specs.declared.state.Open.{Open}
-use Rattle.draft.specs.declared.state.Open.TheVariants as open_body
+use Rattle.draft.specs.declared.state.BodyKind.{BodyKind}
+use Rattle.draft.specs.declared.state.BodyKind.TheVariants as body_kind
 use Rattle.draft.specs.declared.state.Bracket.{Bracket}
-use Rattle.draft.specs.declared.state.Waits.{Waits}
+use Rattle.draft.specs.declared.state.Pieces.{Pieces}
 use Rattle.draft.specs.declared.manner.Side.TheVariants as side
 use Rattle.draft.specs.Manner.{manner_of}
 use Rattle.draft.specs.State.{State, stepped, item_of, on_side, open_after, functions_now, entries_now, module_after, body_after, number_of_next, table_of}
@@ -26,18 +26,18 @@ use Rattle.history.specs.Homes.{home_of}
 use Rattle.history.proofs.Keeping.{nth_push, nth_map, keeps_same, keeps_push, parts_of, BodyOn, parts_same, BodiesOn, bodies_front, bodies_last, bodies_same, tables_of, TablesOn, tables_same, StateOn}
 
 -- what a record does to the bodies
-data Goes (o : Open) (m : Module) (b : Body) (o' : Open) (m' : Module) (b' : Body) : Type 0 where
+data Goes (o : Option BodyKind) (m : Module) (b : Body) (o' : Option BodyKind) (m' : Module) (b' : Body) : Type 0 where
   stays : o' ≡ o → m'.functions ≡ m.functions → m'.entries ≡ m.entries → BodyOn b b' → Goes o m b o' m' b'
-  opens : o ≡ open_body.Nothing → m'.functions ≡ m.functions → m'.entries ≡ m.entries → Goes o m b o' m' b'
-  ends : (c : Body) → BodyOn b c → o' ≡ open_body.Nothing → m'.functions ≡ functions_now o m c → m'.entries ≡ entries_now o m c → Goes o m b o' m' b'
+  opens : o ≡ None → m'.functions ≡ m.functions → m'.entries ≡ m.entries → Goes o m b o' m' b'
+  ends : (c : Body) → BodyOn b c → o' ≡ None → m'.functions ≡ functions_now o m c → m'.entries ≡ entries_now o m c → Goes o m b o' m' b'
 
-outside_only : (o : Open) → on_side o side.Outside ≡ true → o ≡ open_body.Nothing
-outside_only open_body.Nothing h = refl
-outside_only open_body.Function h = let z : ◌≡◌ {A = ℕ} 0 1 = cc in absurd (omega arith)
-outside_only open_body.EntryPoint h = let z : ◌≡◌ {A = ℕ} 0 1 = cc in absurd (omega arith)
+outside_only : (o : Option BodyKind) → on_side o side.Outside ≡ true → o ≡ None
+outside_only None h = refl
+outside_only (Some body_kind.Function) h = let z : ◌≡◌ {A = ℕ} 0 1 = cc in absurd (omega arith)
+outside_only (Some body_kind.EntryPoint) h = let z : ◌≡◌ {A = ℕ} 0 1 = cc in absurd (omega arith)
 
 module _ (m : Module) (b : Body) (i : Item) where
-  goes_at : (k : Kind) (o : Open) → on_side o (manner_of k).side ≡ true → Goes o m b (open_after (manner_of k).motion o) (module_after k o b i m) (body_after k o i b)
+  goes_at : (k : Kind) (o : Option BodyKind) → on_side o (manner_of k).side ≡ true → Goes o m b (open_after (manner_of k).motion o) (module_after k o b i m) (body_after k o i b)
   goes_at kind.Member o h = stays refl refl refl (parts_same (parts_of b))
   goes_at kind.Operand o h = stays refl refl refl (parts_same (parts_of b))
   goes_at kind.Override o h = stays refl refl refl (parts_same (parts_of b))
@@ -54,19 +54,19 @@ module _ (m : Module) (b : Body) (i : Item) where
   goes_at kind.LocalVariable o h = stays refl refl refl (record { opener = refl; locals = keeps_push b.locals i; expressions = keeps_same b.expressions })
   goes_at (kind.Type t) o h = stays refl refl refl (parts_same (parts_of b))
   goes_at kind.Named o h = stays refl refl refl (parts_same (parts_of b))
-  goes_at kind.EndFunction open_body.Nothing h = ends (closed b i) (parts_same (parts_of b)) refl refl refl
-  goes_at kind.EndFunction open_body.Function h = ends (closed b i) (parts_same (parts_of b)) refl refl refl
-  goes_at kind.EndFunction open_body.EntryPoint h = ends (closed b i) (parts_same (parts_of b)) refl refl refl
-  goes_at (kind.Expression e) open_body.Nothing h = stays refl refl refl (parts_same (parts_of b))
-  goes_at (kind.Expression e) open_body.Function h = stays refl refl refl (record { opener = refl; locals = keeps_same b.locals; expressions = keeps_push b.expressions i })
-  goes_at (kind.Expression e) open_body.EntryPoint h = stays refl refl refl (record { opener = refl; locals = keeps_same b.locals; expressions = keeps_push b.expressions i })
+  goes_at kind.EndFunction None h = ends (closed b i) (parts_same (parts_of b)) refl refl refl
+  goes_at kind.EndFunction (Some body_kind.Function) h = ends (closed b i) (parts_same (parts_of b)) refl refl refl
+  goes_at kind.EndFunction (Some body_kind.EntryPoint) h = ends (closed b i) (parts_same (parts_of b)) refl refl refl
+  goes_at (kind.Expression e) None h = stays refl refl refl (parts_same (parts_of b))
+  goes_at (kind.Expression e) (Some body_kind.Function) h = stays refl refl refl (record { opener = refl; locals = keeps_same b.locals; expressions = keeps_push b.expressions i })
+  goes_at (kind.Expression e) (Some body_kind.EntryPoint) h = stays refl refl refl (record { opener = refl; locals = keeps_same b.locals; expressions = keeps_push b.expressions i })
   goes_at (kind.Statement c) o h = stays (statement_stays c o) refl refl (parts_same (parts_of b))
   goes_at kind.End o h = stays refl refl refl (parts_same (parts_of b))
   goes_at kind.EndLoop o h = stays refl refl refl (parts_same (parts_of b))
   goes_at kind.Case o h = stays refl refl refl (parts_same (parts_of b))
   goes_at kind.EndSwitch o h = stays refl refl refl (parts_same (parts_of b))
 
-  tables_at : (k : Kind) (o : Open) → TablesOn (tables_of m) (tables_of (module_after k o b i m))
+  tables_at : (k : Kind) (o : Option BodyKind) → TablesOn (tables_of m) (tables_of (module_after k o b i m))
   tables_at kind.Member o = tables_same (tables_of m)
   tables_at kind.Operand o = tables_same (tables_of m)
   tables_at kind.Override o = record { types = keeps_same m.types; overrides = keeps_push m.overrides i; constants = keeps_same m.constants; globals = keeps_same m.globals; filters = keeps_same m.filters; expressions = keeps_same m.expressions }
@@ -83,12 +83,12 @@ module _ (m : Module) (b : Body) (i : Item) where
   tables_at kind.LocalVariable o = tables_same (tables_of m)
   tables_at (kind.Type t) o = record { types = keeps_push m.types i; overrides = keeps_same m.overrides; constants = keeps_same m.constants; globals = keeps_same m.globals; filters = keeps_same m.filters; expressions = keeps_same m.expressions }
   tables_at kind.Named o = tables_same (tables_of m)
-  tables_at kind.EndFunction open_body.Nothing = tables_same (tables_of m)
-  tables_at kind.EndFunction open_body.Function = tables_same (tables_of m)
-  tables_at kind.EndFunction open_body.EntryPoint = tables_same (tables_of m)
-  tables_at (kind.Expression e) open_body.Nothing = record { types = keeps_same m.types; overrides = keeps_same m.overrides; constants = keeps_same m.constants; globals = keeps_same m.globals; filters = keeps_same m.filters; expressions = keeps_push m.expressions i }
-  tables_at (kind.Expression e) open_body.Function = tables_same (tables_of m)
-  tables_at (kind.Expression e) open_body.EntryPoint = tables_same (tables_of m)
+  tables_at kind.EndFunction None = tables_same (tables_of m)
+  tables_at kind.EndFunction (Some body_kind.Function) = tables_same (tables_of m)
+  tables_at kind.EndFunction (Some body_kind.EntryPoint) = tables_same (tables_of m)
+  tables_at (kind.Expression e) None = record { types = keeps_same m.types; overrides = keeps_same m.overrides; constants = keeps_same m.constants; globals = keeps_same m.globals; filters = keeps_same m.filters; expressions = keeps_push m.expressions i }
+  tables_at (kind.Expression e) (Some body_kind.Function) = tables_same (tables_of m)
+  tables_at (kind.Expression e) (Some body_kind.EntryPoint) = tables_same (tables_of m)
   tables_at (kind.Statement c) o = tables_same (tables_of m)
   tables_at kind.End o = tables_same (tables_of m)
   tables_at kind.EndLoop o = tables_same (tables_of m)
@@ -96,33 +96,33 @@ module _ (m : Module) (b : Body) (i : Item) where
   tables_at kind.EndSwitch o = tables_same (tables_of m)
 
 -- a list of bodies, and the same with the open body at its end where that is of its sort
-module _ (list : Module → List Body) (now : Open → Module → Body → List Body)
-    (either : (o : Open) → ((m : Module) (b : Body) → now o m b ≡ list m) ⊎ ((m : Module) (b : Body) → now o m b ≡ list m ++ b ∷ [])) where
-  now_stays : (o : Open) (m m' : Module) (b b' : Body) → list m' ≡ list m → BodyOn b b' → BodiesOn (now o m b) (now o m' b')
+module _ (list : Module → List Body) (now : Option BodyKind → Module → Body → List Body)
+    (either : (o : Option BodyKind) → ((m : Module) (b : Body) → now o m b ≡ list m) ⊎ ((m : Module) (b : Body) → now o m b ≡ list m ++ b ∷ [])) where
+  now_stays : (o : Option BodyKind) (m m' : Module) (b b' : Body) → list m' ≡ list m → BodyOn b b' → BodiesOn (now o m b) (now o m' b')
   now_stays o m m' b b' e on =
       ⊎_elim
       (λ shut. subst (BodiesOn (now o m b)) (shut m b ∙ sym e ∙ sym (shut m' b')) (bodies_same (now o m b)))
       (λ last. rw (last m b, last m' b', e) (bodies_last (list m) b b' on))
       (either o)
 
-  now_opens : (o : Open) (m m' : Module) (b : Body) → list m' ≡ list m → BodiesOn (list m) (now o m' b)
+  now_opens : (o : Option BodyKind) (m m' : Module) (b : Body) → list m' ≡ list m → BodiesOn (list m) (now o m' b)
   now_opens o m m' b e =
       ⊎_elim
       (λ shut. rw (shut m' b, e) (bodies_same (list m)))
       (λ last. rw (last m' b, e) (bodies_front (list m) (b ∷ [])))
       (either o)
 
-functions_either : (o : Open) → ((m : Module) (b : Body) → functions_now o m b ≡ m.functions) ⊎ ((m : Module) (b : Body) → functions_now o m b ≡ m.functions ++ b ∷ [])
-functions_either open_body.Nothing = inl (λ m b. refl)
-functions_either open_body.Function = inr (λ m b. refl)
-functions_either open_body.EntryPoint = inl (λ m b. refl)
+functions_either : (o : Option BodyKind) → ((m : Module) (b : Body) → functions_now o m b ≡ m.functions) ⊎ ((m : Module) (b : Body) → functions_now o m b ≡ m.functions ++ b ∷ [])
+functions_either None = inl (λ m b. refl)
+functions_either (Some body_kind.Function) = inr (λ m b. refl)
+functions_either (Some body_kind.EntryPoint) = inl (λ m b. refl)
 
-entries_either : (o : Open) → ((m : Module) (b : Body) → entries_now o m b ≡ m.entries) ⊎ ((m : Module) (b : Body) → entries_now o m b ≡ m.entries ++ b ∷ [])
-entries_either open_body.Nothing = inl (λ m b. refl)
-entries_either open_body.Function = inl (λ m b. refl)
-entries_either open_body.EntryPoint = inr (λ m b. refl)
+entries_either : (o : Option BodyKind) → ((m : Module) (b : Body) → entries_now o m b ≡ m.entries) ⊎ ((m : Module) (b : Body) → entries_now o m b ≡ m.entries ++ b ∷ [])
+entries_either None = inl (λ m b. refl)
+entries_either (Some body_kind.Function) = inl (λ m b. refl)
+entries_either (Some body_kind.EntryPoint) = inr (λ m b. refl)
 
-module _ {o : Open} {m : Module} {b : Body} {o' : Open} {m' : Module} {b' : Body} where
+module _ {o : Option BodyKind} {m : Module} {b : Body} {o' : Option BodyKind} {m' : Module} {b' : Body} where
   functions_go : Goes o m b o' m' b' → BodiesOn (functions_now o m b) (functions_now o' m' b')
   functions_go (stays o_is f e on) = rw o_is (now_stays (λ x. x.functions) functions_now functions_either o m m' b b' f on)
   functions_go (opens o_is f e) = rw o_is (now_opens (λ x. x.functions) functions_now functions_either o' m m' b' f)
@@ -164,14 +164,14 @@ next_answer s k = answered (table_of s k) (number_of_next (table_of s k) s)
 abbrev Placed : State → Record → Kind → Type 0
 Placed s r k = (h : Handle) → next_answer s k ≡ answer.Item h → slice_get (items_in (home_of s k) (answer_table (next_answer s k)) (stepped k r s)) (number_of_next (table_of s k) s) ≡ Some (item_of s r)
 
-module _ (m : Module) (b : Body) (bs : List Bracket) (w : Waits) (ws : List Record) (n u : ℕ) (r : Record) where
-  abbrev at : Open → State
+module _ (m : Module) (b : Body) (bs : List Bracket) (w : Option Pieces) (ws : List Record) (n u : ℕ) (r : Record) where
+  abbrev at : Option BodyKind → State
   at o = record { built = m; opened = o; body = b; brackets = bs; waits = w; waiting = ws; kept = n; used = u }
 
   abbrev new : Item
   new = record { place = n; bytes = r; taken = ws }
 
-  placed_at : (k : Kind) (o : Open) → on_side o (manner_of k).side ≡ true → Placed (at o) r k
+  placed_at : (k : Kind) (o : Option BodyKind) → on_side o (manner_of k).side ≡ true → Placed (at o) r k
   placed_at kind.Member o s = λ h e. let z : ◌≡◌ {A = ℕ} 0 1 = cc in absurd (omega arith)
   placed_at kind.Operand o s = λ h e. let z : ◌≡◌ {A = ℕ} 0 1 = cc in absurd (omega arith)
   placed_at kind.Override o s = λ h e. nth_push m.overrides new
@@ -181,23 +181,23 @@ module _ (m : Module) (b : Body) (bs : List Bracket) (w : Waits) (ws : List Reco
   placed_at kind.Predeclared o s = λ h e. let z : ◌≡◌ {A = ℕ} 0 1 = cc in absurd (omega arith)
   placed_at kind.Filter o s = λ h e. nth_push m.filters new
   placed_at kind.Leaf o s = λ h e. let z : ◌≡◌ {A = ℕ} 0 1 = cc in absurd (omega arith)
-  placed_at kind.Function open_body.Nothing s = λ h e. opener_last m.functions new
-  placed_at kind.Function open_body.Function s = let z : ◌≡◌ {A = ℕ} 0 1 = cc in absurd (omega arith)
-  placed_at kind.Function open_body.EntryPoint s = let z : ◌≡◌ {A = ℕ} 0 1 = cc in absurd (omega arith)
-  placed_at kind.EntryPoint open_body.Nothing s = λ h e. opener_last m.entries new
-  placed_at kind.EntryPoint open_body.Function s = let z : ◌≡◌ {A = ℕ} 0 1 = cc in absurd (omega arith)
-  placed_at kind.EntryPoint open_body.EntryPoint s = let z : ◌≡◌ {A = ℕ} 0 1 = cc in absurd (omega arith)
+  placed_at kind.Function None s = λ h e. opener_last m.functions new
+  placed_at kind.Function (Some body_kind.Function) s = let z : ◌≡◌ {A = ℕ} 0 1 = cc in absurd (omega arith)
+  placed_at kind.Function (Some body_kind.EntryPoint) s = let z : ◌≡◌ {A = ℕ} 0 1 = cc in absurd (omega arith)
+  placed_at kind.EntryPoint None s = λ h e. opener_last m.entries new
+  placed_at kind.EntryPoint (Some body_kind.Function) s = let z : ◌≡◌ {A = ℕ} 0 1 = cc in absurd (omega arith)
+  placed_at kind.EntryPoint (Some body_kind.EntryPoint) s = let z : ◌≡◌ {A = ℕ} 0 1 = cc in absurd (omega arith)
   placed_at kind.FunctionArgument o s = λ h e. let z : ◌≡◌ {A = ℕ} 0 1 = cc in absurd (omega arith)
   placed_at kind.FunctionResult o s = λ h e. let z : ◌≡◌ {A = ℕ} 0 1 = cc in absurd (omega arith)
-  placed_at kind.LocalVariable open_body.Nothing s = let z : ◌≡◌ {A = ℕ} 0 1 = cc in absurd (omega arith)
-  placed_at kind.LocalVariable open_body.Function s = λ h e. local_last m.functions b new
-  placed_at kind.LocalVariable open_body.EntryPoint s = λ h e. local_last m.entries b new
+  placed_at kind.LocalVariable None s = let z : ◌≡◌ {A = ℕ} 0 1 = cc in absurd (omega arith)
+  placed_at kind.LocalVariable (Some body_kind.Function) s = λ h e. local_last m.functions b new
+  placed_at kind.LocalVariable (Some body_kind.EntryPoint) s = λ h e. local_last m.entries b new
   placed_at (kind.Type t) o s = λ h e. nth_push m.types new
   placed_at kind.Named o s = λ h e. let z : ◌≡◌ {A = ℕ} 0 1 = cc in absurd (omega arith)
   placed_at kind.EndFunction o s = λ h e. let z : ◌≡◌ {A = ℕ} 0 1 = cc in absurd (omega arith)
-  placed_at (kind.Expression e) open_body.Nothing s = λ h is. nth_push m.expressions new
-  placed_at (kind.Expression e) open_body.Function s = λ h is. inner_last m.functions b new
-  placed_at (kind.Expression e) open_body.EntryPoint s = λ h is. inner_last m.entries b new
+  placed_at (kind.Expression e) None s = λ h is. nth_push m.expressions new
+  placed_at (kind.Expression e) (Some body_kind.Function) s = λ h is. inner_last m.functions b new
+  placed_at (kind.Expression e) (Some body_kind.EntryPoint) s = λ h is. inner_last m.entries b new
   placed_at (kind.Statement c) o s = λ h e. let z : ◌≡◌ {A = ℕ} 0 1 = cc in absurd (omega arith)
   placed_at kind.End o s = λ h e. let z : ◌≡◌ {A = ℕ} 0 1 = cc in absurd (omega arith)
   placed_at kind.EndLoop o s = λ h e. let z : ◌≡◌ {A = ℕ} 0 1 = cc in absurd (omega arith)

@@ -6,14 +6,13 @@ use Rattle.ir.specs.declared.handle.Handle.{Handle}
 use Rattle.ir.specs.declared.handle.Handle.TheVariants as handle
 use Rattle.ir.specs.declared.handle.Table.{Table}
 use Rattle.ir.specs.declared.handle.Table.TheVariants as handles
-use Rattle.ir.specs.declared.handle.TypeHandle.{TypeHandle}
 use Rattle.ir.specs.declared.kinds.Kind.{Kind}
-use Rattle.ir.specs.Handle.{index_of, table_of as handle_table}
+use Rattle.ir.specs.Handle.{TypeHandle, numbered, index_of, table_of as handle_table}
 use Rattle.rules.specs.Module.{Record}
 use Rattle.draft.specs.declared.refusal.Refusal.{Refusal}
 use Rattle.draft.specs.declared.refusal.Refusal.TheVariants.{Full}
-use Rattle.draft.specs.declared.state.Open.{Open}
-use Rattle.draft.specs.declared.state.Open.TheVariants as open_body
+use Rattle.draft.specs.declared.state.BodyKind.{BodyKind}
+use Rattle.draft.specs.declared.state.BodyKind.TheVariants as body_kind
 use Rattle.draft.specs.declared.state.SlotTable.{SlotTable}
 use Rattle.draft.specs.declared.state.SlotTable.TheVariants as table
 use Rattle.draft.specs.Manner.{manner_of}
@@ -52,7 +51,7 @@ answered_index table.LocalVariables n h e = ap answer_number e
 answered_index table.LocalExpressions n h e = ap answer_number e
 
 -- only of the types is a type's handle
-answered_type : (o : Open) (t : SlotTable) (n : ℕ) (h : TypeHandle) → answered (table_in o t) n ≡ answer.Item (handle.Type h) → t ≡ table.Types
+answered_type : (o : Option BodyKind) (t : SlotTable) (n : ℕ) (h : TypeHandle) → answered (table_in o t) n ≡ answer.Item (handle.Type h) → t ≡ table.Types
 answered_type o table.Unnumbered n h e = let z : ◌≡◌ {A = ℕ} 0 1 = cc in absurd (omega arith)
 answered_type o table.Taken n h e = let z : ◌≡◌ {A = ℕ} 0 1 = cc in absurd (omega arith)
 answered_type o table.Types n h e = refl
@@ -60,9 +59,9 @@ answered_type o table.Overrides n h e = let z : ◌≡◌ {A = ℕ} 0 1 = cc in 
 answered_type o table.Constants n h e = let z : ◌≡◌ {A = ℕ} 0 1 = cc in absurd (omega arith)
 answered_type o table.GlobalVariables n h e = let z : ◌≡◌ {A = ℕ} 0 1 = cc in absurd (omega arith)
 answered_type o table.Filters n h e = let z : ◌≡◌ {A = ℕ} 0 1 = cc in absurd (omega arith)
-answered_type open_body.Nothing table.Expressions n h e = let z : ◌≡◌ {A = ℕ} 0 1 = cc in absurd (omega arith)
-answered_type open_body.Function table.Expressions n h e = let z : ◌≡◌ {A = ℕ} 0 1 = cc in absurd (omega arith)
-answered_type open_body.EntryPoint table.Expressions n h e = let z : ◌≡◌ {A = ℕ} 0 1 = cc in absurd (omega arith)
+answered_type None table.Expressions n h e = let z : ◌≡◌ {A = ℕ} 0 1 = cc in absurd (omega arith)
+answered_type (Some body_kind.Function) table.Expressions n h e = let z : ◌≡◌ {A = ℕ} 0 1 = cc in absurd (omega arith)
+answered_type (Some body_kind.EntryPoint) table.Expressions n h e = let z : ◌≡◌ {A = ℕ} 0 1 = cc in absurd (omega arith)
 answered_type o table.Functions n h e = let z : ◌≡◌ {A = ℕ} 0 1 = cc in absurd (omega arith)
 answered_type o table.EntryPoints n h e = let z : ◌≡◌ {A = ℕ} 0 1 = cc in absurd (omega arith)
 answered_type o table.LocalVariables n h e = let z : ◌≡◌ {A = ℕ} 0 1 = cc in absurd (omega arith)
@@ -260,7 +259,7 @@ module _ (room places : ℕ) where
     same_type e =
         let kn : known_from 0 (state then).built.types (item_of (state m) r) ≡ Some n.index = known_stays 0 (state kept).built.types (state then).built.types (item_of (state m) r) n.index (then_on.keeps home.Module handles.Types) (known_after m r k n a x (case_now m r k (handle.Type n) a x)) in
         let same : n.index ≡ o.index = answers_known then q l o then_on.accepted y n.index (known_like 0 (state then).built.types (item_of (state then) q) (item_of (state m) r) (sym e.0) (sym e.1) ∙ kn) (case_now then q l (handle.Type o) then_on.accepted y) in
-        ap (λ i. record { index = i }) same
+        ap numbered same
 
   run_accepted : (rs : List Record) → Accepted start (run room places [] rs)
   run_accepted rs = (run_on [] rs tt).accepted

@@ -1,8 +1,8 @@
 -- Where the record that comes next is numbered: in the module, or in the open body.
-use Rattle.std.specs.Prelude.{length}
+use Rattle.std.specs.Prelude.{length, Some, None, Option}
 use Rattle.ir.specs.declared.kinds.Kind.{Kind}
-use Rattle.draft.specs.declared.state.Open.{Open}
-use Rattle.draft.specs.declared.state.Open.TheVariants as open_body
+use Rattle.draft.specs.declared.state.BodyKind.{BodyKind}
+use Rattle.draft.specs.declared.state.BodyKind.TheVariants as body_kind
 use Rattle.draft.specs.declared.state.SlotTable.{SlotTable}
 use Rattle.draft.specs.declared.state.SlotTable.TheVariants as table
 use Rattle.draft.specs.State.{State, table_of}
@@ -10,10 +10,10 @@ use Rattle.arena.specs.declared.view.Home.{Home}
 use Rattle.arena.specs.declared.view.Home.TheVariants as home
 
 -- the open body is the last of its table
-abbrev pub home_open : Open → State → Home
-home_open open_body.Nothing s = home.Module
-home_open open_body.Function s = home.Function (length s.built.functions)
-home_open open_body.EntryPoint s = home.EntryPoint (length s.built.entries)
+abbrev pub home_open : Option BodyKind → State → Home
+home_open None s = home.Module
+home_open (Some body_kind.Function) s = home.Function (length s.built.functions)
+home_open (Some body_kind.EntryPoint) s = home.EntryPoint (length s.built.entries)
 
 -- where a record is numbered that comes next: in the open body, if its table is one of a body
 abbrev pub home_in : State → SlotTable → Home

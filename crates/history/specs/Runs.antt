@@ -4,9 +4,8 @@ use Rattle.std.specs.List.{slice_get}
 use Rattle.ir.specs.declared.handle.Handle.{Handle}
 use Rattle.ir.specs.declared.handle.Handle.TheVariants as handle
 use Rattle.ir.specs.declared.handle.Table.{Table}
-use Rattle.ir.specs.declared.handle.TypeHandle.{TypeHandle}
 use Rattle.ir.specs.declared.kinds.Kind.{Kind}
-use Rattle.ir.specs.Handle.{index_of, table_of as handle_table}
+use Rattle.ir.specs.Handle.{TypeHandle, index_of, table_of as handle_table}
 use Rattle.rules.specs.Module.{Record, Item}
 use Rattle.draft.specs.State.{State, state}
 use Rattle.draft.specs.Admitted.{admitted}

@@ -2,20 +2,30 @@
 use Rattle.std.specs.Prelude.{ℕ}
 use Rattle.ir.specs.declared.handle.Table.{Table}
 use Rattle.ir.specs.declared.handle.Table.TheVariants.{Types, Constants, Overrides, GlobalVariables, LocalVariables, Expressions, Functions, Filters, EntryPoints}
+use Rattle.ir.specs.declared.handle.HandleIn.{HandleIn}
+use Rattle.ir.specs.declared.handle.tables.Types.{Types as TypesTable}
 use Rattle.ir.specs.declared.handle.Handle.{Handle}
 use Rattle.ir.specs.declared.handle.Handle.TheVariants as handle
 
+-- the handle of the item with that number in the table T
+abbrev pub numbered : {T : Type 0} → ℕ → HandleIn T
+numbered n = record { index = n; marker = record {} }
+
+-- the number of a type
+abbrev pub TypeHandle : Type 0
+TypeHandle = HandleIn TypesTable
+
 -- the handle of the item with that number in that table
 abbrev pub named : Table → ℕ → Handle
-named Types n = handle.Type (record { index = n })
-named Constants n = handle.Constant (record { index = n })
-named Overrides n = handle.Override (record { index = n })
-named GlobalVariables n = handle.GlobalVariable (record { index = n })
-named LocalVariables n = handle.LocalVariable (record { index = n })
-named Expressions n = handle.Expression (record { index = n })
-named Functions n = handle.Function (record { index = n })
-named Filters n = handle.Filter (record { index = n })
-named EntryPoints n = handle.EntryPoint (record { index = n })
+named Types n = handle.Type (numbered n)
+named Constants n = handle.Constant (numbered n)
+named Overrides n = handle.Override (numbered n)
+named GlobalVariables n = handle.GlobalVariable (numbered n)
+named LocalVariables n = handle.LocalVariable (numbered n)
+named Expressions n = handle.Expression (numbered n)
+named Functions n = handle.Function (numbered n)
+named Filters n = handle.Filter (numbered n)
+named EntryPoints n = handle.EntryPoint (numbered n)
 
 -- the table that a handle is of
 abbrev pub table_of : Handle → Table

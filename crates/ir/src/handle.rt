@@ -1,10 +1,12 @@
-//! The tables of a module, and a handle struct for each, so that the number of one never passes for
-//! that of another.
+//! The tables of a module, and handles typed by table, so that the number of one never passes for that
+//! of another.
 ghost use Rattle.std.specs.Prelude.{◌≡◌};
-ghost use Rattle.ir.specs.Handle.{named, table_of, index_of};
+ghost use Rattle.ir.specs.Handle.{numbered, named, table_of, index_of};
+
+use std::marker::PhantomData;
 
 /// The tables whose items are numbered, each from 0.
-#[derive(Clone, Copy)]
+#[derive(Clone, Copy, Debug, PartialEq, Eq)]
 pub enum Table {
     Types,
     Constants,
@@ -17,72 +19,70 @@ pub enum Table {
     EntryPoints,
 }
 
-/// The number of a type.
-#[derive(Clone, Copy)]
-pub struct TypeHandle {
-    pub index: u32,
+/// A type for each table, for the handles of its items.
+pub mod tables {
+    #[derive(Clone, Copy)]
+    pub struct Types;
+
+    #[derive(Clone, Copy)]
+    pub struct Constants;
+
+    #[derive(Clone, Copy)]
+    pub struct Overrides;
+
+    #[derive(Clone, Copy)]
+    pub struct GlobalVariables;
+
+    #[derive(Clone, Copy)]
+    pub struct LocalVariables;
+
+    #[derive(Clone, Copy)]
+    pub struct Expressions;
+
+    #[derive(Clone, Copy)]
+    pub struct Functions;
+
+    #[derive(Clone, Copy)]
+    pub struct Filters;
+
+    #[derive(Clone, Copy)]
+    pub struct EntryPoints;
 }
 
-/// The number of a constant.
+/// The number of an item in the table `T`.
 #[derive(Clone, Copy)]
-pub struct ConstantHandle {
+pub struct HandleIn<T> {
     pub index: u32,
-}
-
-/// The number of an override.
-#[derive(Clone, Copy)]
-pub struct OverrideHandle {
-    pub index: u32,
-}
-
-/// The number of a global variable.
-#[derive(Clone, Copy)]
-pub struct GlobalVariableHandle {
-    pub index: u32,
-}
-
-/// The number of a local variable.
-#[derive(Clone, Copy)]
-pub struct LocalVariableHandle {
-    pub index: u32,
+    marker: PhantomData<T>,
 }
 
 /// The number of an expression.
-#[derive(Clone, Copy)]
-pub struct ExpressionHandle {
-    pub index: u32,
-}
-
-/// The number of a function.
-#[derive(Clone, Copy)]
-pub struct FunctionHandle {
-    pub index: u32,
-}
-
-/// The number of a diagnostic filter node.
-#[derive(Clone, Copy)]
-pub struct FilterHandle {
-    pub index: u32,
-}
-
-/// The number of an entry point.
-#[derive(Clone, Copy)]
-pub struct EntryPointHandle {
-    pub index: u32,
-}
+pub type ExpressionHandle = HandleIn<tables::Expressions>;
 
 /// A handle of any table.
 #[derive(Clone, Copy)]
 pub enum Handle {
-    Type(TypeHandle),
-    Constant(ConstantHandle),
-    Override(OverrideHandle),
-    GlobalVariable(GlobalVariableHandle),
-    LocalVariable(LocalVariableHandle),
-    Expression(ExpressionHandle),
-    Function(FunctionHandle),
-    Filter(FilterHandle),
-    EntryPoint(EntryPointHandle),
+    Type(HandleIn<tables::Types>),
+    Constant(HandleIn<tables::Constants>),
+    Override(HandleIn<tables::Overrides>),
+    GlobalVariable(HandleIn<tables::GlobalVariables>),
+    LocalVariable(HandleIn<tables::LocalVariables>),
+    Expression(HandleIn<tables::Expressions>),
+    Function(HandleIn<tables::Functions>),
+    Filter(HandleIn<tables::Filters>),
+    EntryPoint(HandleIn<tables::EntryPoints>),
+}
+
+impl<T> HandleIn<T> {
+    /// The handle of the item with this number.
+    pub fn new(index: u32) -> HandleIn<T>
+        ensures { result ≡ numbered index }
+    {
+        HandleIn {
+            index,
+            marker: PhantomData,
+        }
+    }
 }
 
 impl Table {
@@ -91,15 +91,15 @@ impl Table {
         ensures { result ≡ named self index }
     {
         match self {
-            Table::Types => Handle::Type(TypeHandle { index }),
-            Table::Constants => Handle::Constant(ConstantHandle { index }),
-            Table::Overrides => Handle::Override(OverrideHandle { index }),
-            Table::GlobalVariables => Handle::GlobalVariable(GlobalVariableHandle { index }),
-            Table::LocalVariables => Handle::LocalVariable(LocalVariableHandle { index }),
-            Table::Expressions => Handle::Expression(ExpressionHandle { index }),
-            Table::Functions => Handle::Function(FunctionHandle { index }),
-            Table::Filters => Handle::Filter(FilterHandle { index }),
-            Table::EntryPoints => Handle::EntryPoint(EntryPointHandle { index }),
+            Table::Types => Handle::Type(HandleIn::new(index)),
+            Table::Constants => Handle::Constant(HandleIn::new(index)),
+            Table::Overrides => Handle::Override(HandleIn::new(index)),
+            Table::GlobalVariables => Handle::GlobalVariable(HandleIn::new(index)),
+            Table::LocalVariables => Handle::LocalVariable(HandleIn::new(index)),
+            Table::Expressions => Handle::Expression(HandleIn::new(index)),
+            Table::Functions => Handle::Function(HandleIn::new(index)),
+            Table::Filters => Handle::Filter(HandleIn::new(index)),
+            Table::EntryPoints => Handle::EntryPoint(HandleIn::new(index)),
         }
     }
 }

@@ -5,5 +5,6 @@ pub mod fields;
 pub mod handle;
 pub mod kinds;
 pub mod non_max_u32;
-mod numbers;
+pub mod numbers;
 pub mod range;
+mod shown;

@@ -1,47 +1,62 @@
 //! The number of each kind.
-ghost use Rattle.std.specs.Prelude.{◌≡◌, ℕ, ◌<◌, Some};
+ghost use Rattle.std.specs.Prelude.{◌≡◌, ℕ, ◌<◌, Some, None, MatchResult};
 ghost use Rattle.std.specs.List.{slice_get};
 ghost use Rattle.ir.specs.Number.{kind_of, number_of, types, expressions, statements, type_case, expression_case, statement_case, second_first};
 
 use crate::kinds::{Expression, Kind, Statement, TypeInner};
 
-impl Kind {
+/// A number that no kind has.
+#[derive(Clone, Copy, Debug, PartialEq, Eq)]
+pub struct UnknownKind;
+
+/// The case at a place of a list, counted from 0.
+fn case_at<T: Copy>(cases: &[T], place: u8) -> Result<T, UnknownKind>
+    ensures { MatchResult result (λ case. slice_get cases.now place ≡ Some case) (λ _. slice_get cases.now place ≡ None) }
+{
+    cases.get(usize::from(place)).copied().ok_or(UnknownKind)
+}
+
+impl TryFrom<u8> for Kind {
+    type Error = UnknownKind;
+
+    ghost try_from_gives = { λ byte r. MatchResult r (λ kind. kind_of byte ≡ Some kind) (λ _. kind_of byte ≡ None) };
+
     /// The kind that has the number `byte`.
-    pub fn from_byte(byte: u8) -> Option<Kind>
-        ensures { result ≡ kind_of byte }
-    {
+    fn try_from(byte: u8) -> Result<Kind, UnknownKind> {
         match byte {
-            1 => Some(Kind::Member),
-            2 => Some(Kind::Operand),
-            3 => Some(Kind::Override),
-            4 => Some(Kind::Constant),
-            5 => Some(Kind::GlobalVariable),
-            6 => Some(Kind::SpecialTypes),
-            7 => Some(Kind::Predeclared),
-            8 => Some(Kind::Filter),
-            9 => Some(Kind::Leaf),
-            11 => Some(Kind::Function),
-            12 => Some(Kind::EntryPoint),
-            13 => Some(Kind::FunctionArgument),
-            14 => Some(Kind::FunctionResult),
-            15 => Some(Kind::LocalVariable),
-            16..=29 => Some(Kind::Type(TypeInner::from_case(byte - 16)?)),
-            30 => Some(Kind::Named),
-            31 => Some(Kind::EndFunction),
-            64..=97 => Some(Kind::Expression(Expression::from_case(byte - 64)?)),
-            128..=150 => Some(Kind::Statement(Statement::from_case(byte - 128)?)),
-            151 => Some(Kind::End),
-            152 => Some(Kind::EndLoop),
-            153 => Some(Kind::Case),
-            154 => Some(Kind::EndSwitch),
-            _ => None,
+            1 => Ok(Kind::Member),
+            2 => Ok(Kind::Operand),
+            3 => Ok(Kind::Override),
+            4 => Ok(Kind::Constant),
+            5 => Ok(Kind::GlobalVariable),
+            6 => Ok(Kind::SpecialTypes),
+            7 => Ok(Kind::Predeclared),
+            8 => Ok(Kind::Filter),
+            9 => Ok(Kind::Leaf),
+            11 => Ok(Kind::Function),
+            12 => Ok(Kind::EntryPoint),
+            13 => Ok(Kind::FunctionArgument),
+            14 => Ok(Kind::FunctionResult),
+            15 => Ok(Kind::LocalVariable),
+            16..=29 => Ok(Kind::Type(case_at(&TypeInner::ALL, byte - 16)?)),
+            30 => Ok(Kind::Named),
+            31 => Ok(Kind::EndFunction),
+            64..=97 => Ok(Kind::Expression(case_at(&Expression::ALL, byte - 64)?)),
+            128..=150 => Ok(Kind::Statement(case_at(&Statement::ALL, byte - 128)?)),
+            151 => Ok(Kind::End),
+            152 => Ok(Kind::EndLoop),
+            153 => Ok(Kind::Case),
+            154 => Ok(Kind::EndSwitch),
+            _ => Err(UnknownKind),
         }
     }
+}
 
-    fn own_number(self) -> u8
-        ensures { result ≡ number_of self }
-    {
-        match self {
+impl From<Kind> for u8 {
+    ghost from_gives = { λ kind n. n ≡ number_of kind };
+
+    fn from(kind: Kind) -> u8 {
+        match kind {
             Kind::Member => 1,
             Kind::Operand => 2,
             Kind::Override => 3,
@@ -67,14 +82,16 @@ impl Kind {
             Kind::EndSwitch => 154,
         }
     }
+}
 
-    /// Its number: the only byte for which `from_byte` gives it.
+impl Kind {
+    /// Its number: the only byte of which `try_from` makes it.
     pub fn number(self) -> u8
         ensures value { result ≡ number_of self }
         ensures found { kind_of result ≡ Some self }
         ensures only { (n : ℕ) → n < 256 → kind_of n ≡ Some self → n ≡ result }
     {
-        self.own_number()
+        u8::from(self)
     }
 
     /// Whether its second field is tested before its first, and not in order of declaration.
@@ -89,31 +106,27 @@ impl Kind {
 }
 
 impl TypeInner {
-    /// Counted from 0, in order of declaration.
-    fn from_case(case: u8) -> Option<TypeInner>
-        ensures { result ≡ slice_get types case }
-    {
-        match case {
-            0 => Some(TypeInner::Scalar),
-            1 => Some(TypeInner::Vector),
-            2 => Some(TypeInner::Matrix),
-            3 => Some(TypeInner::CooperativeMatrix),
-            4 => Some(TypeInner::Atomic),
-            5 => Some(TypeInner::Pointer),
-            6 => Some(TypeInner::ValuePointer),
-            7 => Some(TypeInner::Array),
-            8 => Some(TypeInner::Struct),
-            9 => Some(TypeInner::Image),
-            10 => Some(TypeInner::Sampler),
-            11 => Some(TypeInner::AccelerationStructure),
-            12 => Some(TypeInner::RayQuery),
-            13 => Some(TypeInner::BindingArray),
-            _ => None,
-        }
-    }
+    /// In order of declaration.
+    const ALL: [TypeInner; 14] = [
+        TypeInner::Scalar,
+        TypeInner::Vector,
+        TypeInner::Matrix,
+        TypeInner::CooperativeMatrix,
+        TypeInner::Atomic,
+        TypeInner::Pointer,
+        TypeInner::ValuePointer,
+        TypeInner::Array,
+        TypeInner::Struct,
+        TypeInner::Image,
+        TypeInner::Sampler,
+        TypeInner::AccelerationStructure,
+        TypeInner::RayQuery,
+        TypeInner::BindingArray,
+    ];
 }
 
 impl Expression {
+    /// In order of declaration.
     const ALL: [Expression; 34] = [
         Expression::Literal,
         Expression::Constant,
@@ -150,50 +163,33 @@ impl Expression {
         Expression::CooperativeLoad,
         Expression::CooperativeMultiplyAdd,
     ];
-
-    /// Counted from 0, in order of declaration.
-    fn from_case(case: u8) -> Option<Expression>
-        ensures { result ≡ slice_get expressions case }
-    {
-        let place = case as usize;
-        if place < 34 {
-            Some(Self::ALL[place])
-        } else {
-            None
-        }
-    }
 }
 
 impl Statement {
-    /// Counted from 0, in order of declaration.
-    fn from_case(case: u8) -> Option<Statement>
-        ensures { result ≡ slice_get statements case }
-    {
-        match case {
-            0 => Some(Statement::Emit),
-            1 => Some(Statement::Block),
-            2 => Some(Statement::If),
-            3 => Some(Statement::Switch),
-            4 => Some(Statement::Loop),
-            5 => Some(Statement::Break),
-            6 => Some(Statement::Continue),
-            7 => Some(Statement::Return),
-            8 => Some(Statement::Kill),
-            9 => Some(Statement::ControlBarrier),
-            10 => Some(Statement::MemoryBarrier),
-            11 => Some(Statement::Store),
-            12 => Some(Statement::ImageStore),
-            13 => Some(Statement::Atomic),
-            14 => Some(Statement::ImageAtomic),
-            15 => Some(Statement::WorkGroupUniformLoad),
-            16 => Some(Statement::Call),
-            17 => Some(Statement::RayQuery),
-            18 => Some(Statement::RayPipelineFunction),
-            19 => Some(Statement::SubgroupBallot),
-            20 => Some(Statement::SubgroupGather),
-            21 => Some(Statement::SubgroupCollectiveOperation),
-            22 => Some(Statement::CooperativeStore),
-            _ => None,
-        }
-    }
+    /// In order of declaration.
+    const ALL: [Statement; 23] = [
+        Statement::Emit,
+        Statement::Block,
+        Statement::If,
+        Statement::Switch,
+        Statement::Loop,
+        Statement::Break,
+        Statement::Continue,
+        Statement::Return,
+        Statement::Kill,
+        Statement::ControlBarrier,
+        Statement::MemoryBarrier,
+        Statement::Store,
+        Statement::ImageStore,
+        Statement::Atomic,
+        Statement::ImageAtomic,
+        Statement::WorkGroupUniformLoad,
+        Statement::Call,
+        Statement::RayQuery,
+        Statement::RayPipelineFunction,
+        Statement::SubgroupBallot,
+        Statement::SubgroupGather,
+        Statement::SubgroupCollectiveOperation,
+        Statement::CooperativeStore,
+    ];
 }

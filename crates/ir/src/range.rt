@@ -2,7 +2,7 @@
 ghost use Rattle.std.specs.Prelude.{◌≡◌, ◌-◌};
 ghost use Rattle.ir.specs.Range.{ends};
 
-use crate::handle::ExpressionHandle;
+use crate::handle::{ExpressionHandle, HandleIn};
 
 /// From `start` up to `end`, which is not in it: empty unless `start` is below `end`.
 #[derive(Clone, Copy)]
@@ -17,12 +17,7 @@ impl Range {
         ensures { result ≡ ends self.start self.end }
     {
         if self.start < self.end {
-            Some((
-                ExpressionHandle { index: self.start },
-                ExpressionHandle {
-                    index: self.end - 1,
-                },
-            ))
+            Some((HandleIn::new(self.start), HandleIn::new(self.end - 1)))
         } else {
             None
         }

@@ -1,7 +1,8 @@
 -- Each table is in order of arrival, below what is kept, and an item that arrives keeps it so.
-use Rattle.std.proofs.Common.{◌≡◌, ℕ, ◌+◌, ◌<◌, ◌≤◌, List, [], ◌∷◌, ◌++◌, map, Some, None, Option, sym, refl, ap, subst, arith}
+use Rattle.std.proofs.Common.{◌≡◌, ℕ, ◌+◌, ◌<◌, ◌≤◌, List, [], ◌∷◌, ◌++◌, map, Some, None, Option, sym, subst, arith}
 use Rattle.std.specs.List.{AllByRecursion}
 use Rattle.std.proofs.ByRecursion.{All-push, All-weaker}
+use Rattle.std.proofs.lemmas.List.{map_push}
 use Rattle.rules.specs.Module.{Item, Body, Module, opened_by, add_type, add_override, add_constant, add_global, set_special, add_predeclared, add_filter, set_leaf, add_expression, add_function, add_entry, add_argument, set_result, add_local, add_named, add_inner, add_statement, closed}
 use Rattle.laws.specs.Decoded.{Starts, Arrived}
 
@@ -11,8 +12,7 @@ pub record Sorted (n : ℕ) (xs : List Item) : Type 0 where
   pub below : AllByRecursion (λ i. i.place < n) xs
 
 all_places : (P : ℕ → Type 0) (xs : List Item) (i : Item) → AllByRecursion P (map (λ x. x.place) xs) → P i.place → AllByRecursion P (map (λ x. x.place) (xs ++ i ∷ []))
-all_places P [] i a h = (h, tt)
-all_places P (x ∷ xs) i a h = (a.0, all_places P xs i a.1 h)
+all_places P xs i a h = subst (AllByRecursion P) (sym (map_push (λ x. x.place) xs i)) (All-push P (map (λ x. x.place) xs) i.place a h)
 
 arrived_push : (xs : List Item) (i : Item) → Arrived xs → AllByRecursion (λ x. x.place < i.place) xs → Arrived (xs ++ i ∷ [])
 arrived_push [] i a b = (tt, tt)
@@ -158,12 +158,8 @@ module _ (n : ℕ) (i : Item) (at : i.place ≡ n) where
   fine_leaf low low' m h starts bare f = let g = module_later low low' n (n + 1) h (omega arith) m f in record { types = g.types; overrides = g.overrides; constants = g.constants; globals = g.globals; special = g.special; predeclared = g.predeclared; filters = g.filters; leaf = record { starts = starts; bare = bare; above = omega arith; below = omega arith }; expressions = g.expressions; functions = g.functions; entries = g.entries; in_functions = g.in_functions; in_entries = g.in_entries }
 
 -- a body joins its table
-map_push : (bs : List Body) (b : Body) → map (λ x. x.opener) (bs ++ b ∷ []) ≡ map (λ x. x.opener) bs ++ b.opener ∷ []
-map_push [] b = refl
-map_push (x ∷ bs) b = ap (λ t. x.opener ∷ t) (map_push bs b)
-
 openers_push : (n k : ℕ) (bs : List Body) (b : Body) → n ≤ b.opener.place → b.opener.place < k → Sorted n (map (λ x. x.opener) bs) → Sorted k (map (λ x. x.opener) (bs ++ b ∷ []))
-openers_push n k bs b h l s = subst (Sorted k) (sym (map_push bs b)) (sorted_push n k (map (λ x. x.opener) bs) b.opener h l s)
+openers_push n k bs b h l s = subst (Sorted k) (sym (map_push (λ x. x.opener) bs b)) (sorted_push n k (map (λ x. x.opener) bs) b.opener h l s)
 
 module _ (low n : ℕ) (m : Module) (b : Body) (at : low ≡ b.opener.place) (fine : FineBody n b) where
   pub fine_function : FineModule low n m → FineModule n n (add_function m b)

@@ -1,5 +1,5 @@
 -- What may stand behind the records so far, so that all of it is a block: open brackets are closed, the innermost first.
-use Rattle.std.proofs.Common.{◌≡◌, ℕ, ◌+◌, true, List, [], ◌∷◌, ◌++◌, is_some, sym, refl, ap, ◌∙◌, subst, append_assoc, arith}
+use Rattle.std.proofs.Common.{◌≡◌, ℕ, ◌+◌, true, List, [], ◌∷◌, ◌++◌, is_some, sym, refl, ap, ◌∙◌, subst, append_assoc}
 use Rattle.ir.specs.declared.kinds.Statement.{Statement}
 use Rattle.ir.specs.declared.kinds.Statement.TheVariants as statement
 use Rattle.ir.specs.Number.{statement_case}
@@ -59,7 +59,7 @@ module _ (st : List ℕ) (grows : (rest : List ℕ) → Block rest → Block (st
   grown (bracket.Block ∷ bs) tail h c = ends_grown 151 (Closing bs) tail c
   grown (bracket.Accept ∷ bs) tail h c = ends_grown 151 (Ends 151 (Closing bs)) tail c
   grown (bracket.Reject ∷ bs) tail h c = ends_grown 151 (Closing bs) tail c
-  grown (bracket.Switch ∷ bs) tail h c = let z : ◌≡◌ {A = ℕ} 0 1 = cc in absurd (omega arith)
+  grown (bracket.Switch ∷ bs) tail h c = absurd cc
   grown (bracket.Case ∷ bs) tail h c = ends_grown 151 (Closing bs) tail c
   grown (bracket.Body ∷ bs) tail h c = ends_grown 151 (Ends 152 (Closing bs)) tail c
   grown (bracket.Continuing ∷ bs) tail h c = ends_grown 152 (Closing bs) tail c
@@ -67,24 +67,14 @@ module _ (st : List ℕ) (grows : (rest : List ℕ) → Block rest → Block (st
 -- a bracket is pushed wherever a statement may stand
 pushed : (bs : List Bracket) (b : Bracket) → is_some (turn_of (innermost bs) (motion.Enter b)) ≡ true → (is_some (turn_of (innermost bs) motion.Statement) ≡ true) × (turned (turn_of (innermost bs) (motion.Enter b)) bs ≡ b ∷ bs)
 pushed [] b h = (refl, refl)
-pushed (bracket.Block ∷ bs) b h = (refl, refl)
-pushed (bracket.Accept ∷ bs) b h = (refl, refl)
-pushed (bracket.Reject ∷ bs) b h = (refl, refl)
-pushed (bracket.Switch ∷ bs) b h = let z : ◌≡◌ {A = ℕ} 0 1 = cc in absurd (omega arith)
-pushed (bracket.Case ∷ bs) b h = (refl, refl)
-pushed (bracket.Body ∷ bs) b h = (refl, refl)
-pushed (bracket.Continuing ∷ bs) b h = (refl, refl)
+pushed (bracket.Switch ∷ bs) b h = absurd cc
+pushed (a ∷ bs) b h = (refl, refl)
 
 -- and a simple one leaves the brackets as they are
 kept : (bs : List Bracket) → is_some (turn_of (innermost bs) motion.Statement) ≡ true → turned (turn_of (innermost bs) motion.Statement) bs ≡ bs
 kept [] h = refl
 kept (bracket.Block ∷ bs) h = refl
-kept (bracket.Accept ∷ bs) h = refl
-kept (bracket.Reject ∷ bs) h = refl
-kept (bracket.Switch ∷ bs) h = refl
-kept (bracket.Case ∷ bs) h = refl
-kept (bracket.Body ∷ bs) h = refl
-kept (bracket.Continuing ∷ bs) h = refl
+kept (b ∷ bs) h = refl
 
 -- a statement with its endings, and then the rest
 one_part : (a : List ℕ) (n : ℕ) (x : List ℕ) → (a ++ (n ∷ [])) ++ x ≡ a ++ (n ∷ x)
@@ -166,36 +156,22 @@ statement_turn statement.CooperativeStore = simple_turn 150 refl
 
 -- the end of a block
 pub end_turn : (bs : List Bracket) (tail : List ℕ) → is_some (turn_of (innermost bs) motion.End) ≡ true → Closing (turned (turn_of (innermost bs) motion.End) bs) tail → Closing bs (151 ∷ tail)
-end_turn [] tail h c = let z : ◌≡◌ {A = ℕ} 0 1 = cc in absurd (omega arith)
 end_turn (bracket.Block ∷ bs) tail h c = ends_here 151 (Closing bs) tail c
 end_turn (bracket.Accept ∷ bs) tail h c = ends_here 151 (Ends 151 (Closing bs)) tail c
 end_turn (bracket.Reject ∷ bs) tail h c = ends_here 151 (Closing bs) tail c
-end_turn (bracket.Switch ∷ bs) tail h c = let z : ◌≡◌ {A = ℕ} 0 1 = cc in absurd (omega arith)
 end_turn (bracket.Case ∷ bs) tail h c = ends_here 151 (Closing bs) tail c
 end_turn (bracket.Body ∷ bs) tail h c = ends_here 151 (Ends 152 (Closing bs)) tail c
-end_turn (bracket.Continuing ∷ bs) tail h c = let z : ◌≡◌ {A = ℕ} 0 1 = cc in absurd (omega arith)
+end_turn bs tail h c = absurd cc
 
 -- the end of a loop's second half
 pub loop_end_turn : (bs : List Bracket) (tail : List ℕ) → is_some (turn_of (innermost bs) motion.EndLoop) ≡ true → Closing (turned (turn_of (innermost bs) motion.EndLoop) bs) tail → Closing bs (152 ∷ tail)
-loop_end_turn [] tail h c = let z : ◌≡◌ {A = ℕ} 0 1 = cc in absurd (omega arith)
-loop_end_turn (bracket.Block ∷ bs) tail h c = let z : ◌≡◌ {A = ℕ} 0 1 = cc in absurd (omega arith)
-loop_end_turn (bracket.Accept ∷ bs) tail h c = let z : ◌≡◌ {A = ℕ} 0 1 = cc in absurd (omega arith)
-loop_end_turn (bracket.Reject ∷ bs) tail h c = let z : ◌≡◌ {A = ℕ} 0 1 = cc in absurd (omega arith)
-loop_end_turn (bracket.Switch ∷ bs) tail h c = let z : ◌≡◌ {A = ℕ} 0 1 = cc in absurd (omega arith)
-loop_end_turn (bracket.Case ∷ bs) tail h c = let z : ◌≡◌ {A = ℕ} 0 1 = cc in absurd (omega arith)
-loop_end_turn (bracket.Body ∷ bs) tail h c = let z : ◌≡◌ {A = ℕ} 0 1 = cc in absurd (omega arith)
 loop_end_turn (bracket.Continuing ∷ bs) tail h c = ends_here 152 (Closing bs) tail c
+loop_end_turn bs tail h c = absurd cc
 
 -- the end of the cases
 pub switch_end_turn : (bs : List Bracket) (tail : List ℕ) → is_some (turn_of (innermost bs) motion.EndSwitch) ≡ true → Closing (turned (turn_of (innermost bs) motion.EndSwitch) bs) tail → Closing bs (154 ∷ tail)
-switch_end_turn [] tail h c = let z : ◌≡◌ {A = ℕ} 0 1 = cc in absurd (omega arith)
-switch_end_turn (bracket.Block ∷ bs) tail h c = let z : ◌≡◌ {A = ℕ} 0 1 = cc in absurd (omega arith)
-switch_end_turn (bracket.Accept ∷ bs) tail h c = let z : ◌≡◌ {A = ℕ} 0 1 = cc in absurd (omega arith)
-switch_end_turn (bracket.Reject ∷ bs) tail h c = let z : ◌≡◌ {A = ℕ} 0 1 = cc in absurd (omega arith)
 switch_end_turn (bracket.Switch ∷ bs) tail h c = record { inner = []; rest = tail; is = refl; cases = none; then = c }
-switch_end_turn (bracket.Case ∷ bs) tail h c = let z : ◌≡◌ {A = ℕ} 0 1 = cc in absurd (omega arith)
-switch_end_turn (bracket.Body ∷ bs) tail h c = let z : ◌≡◌ {A = ℕ} 0 1 = cc in absurd (omega arith)
-switch_end_turn (bracket.Continuing ∷ bs) tail h c = let z : ◌≡◌ {A = ℕ} 0 1 = cc in absurd (omega arith)
+switch_end_turn bs tail h c = absurd cc
 
 -- one case more
 case_more : (Then : List ℕ → Type 0) (tail : List ℕ) → Ends 151 (EndsCases Then) tail → EndsCases Then (153 ∷ tail)
@@ -211,11 +187,5 @@ case_more Then tail c =
 
 -- a case, directly in a Switch
 pub case_turn : (bs : List Bracket) (tail : List ℕ) → is_some (turn_of (innermost bs) motion.Case) ≡ true → Closing (turned (turn_of (innermost bs) motion.Case) bs) tail → Closing bs (153 ∷ tail)
-case_turn [] tail h c = let z : ◌≡◌ {A = ℕ} 0 1 = cc in absurd (omega arith)
-case_turn (bracket.Block ∷ bs) tail h c = let z : ◌≡◌ {A = ℕ} 0 1 = cc in absurd (omega arith)
-case_turn (bracket.Accept ∷ bs) tail h c = let z : ◌≡◌ {A = ℕ} 0 1 = cc in absurd (omega arith)
-case_turn (bracket.Reject ∷ bs) tail h c = let z : ◌≡◌ {A = ℕ} 0 1 = cc in absurd (omega arith)
 case_turn (bracket.Switch ∷ bs) tail h c = case_more (Closing bs) tail c
-case_turn (bracket.Case ∷ bs) tail h c = let z : ◌≡◌ {A = ℕ} 0 1 = cc in absurd (omega arith)
-case_turn (bracket.Body ∷ bs) tail h c = let z : ◌≡◌ {A = ℕ} 0 1 = cc in absurd (omega arith)
-case_turn (bracket.Continuing ∷ bs) tail h c = let z : ◌≡◌ {A = ℕ} 0 1 = cc in absurd (omega arith)
+case_turn bs tail h c = absurd cc

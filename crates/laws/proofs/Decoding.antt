@@ -1,52 +1,49 @@
 -- Every kept record stands in the module once, and each table is in order of arrival.
-use Rattle.std.proofs.Common.{◌≡◌, ℕ, ◌+◌, ◌≤◌, true, false, List, [], ◌∷◌, ◌++◌, length, is_some, sum_by, sym, refl, ap, ◌∙◌, inl, inr, ⊎_elim, arith, length-append}
-use Rattle.std.specs.List.{ContainsAt as Has, AllByRecursion}
+use Rattle.std.proofs.Common.{◌≡◌, ℕ, ◌+◌, ◌≤◌, true, false, List, [], ◌∷◌, ◌++◌, length, is_some, sum_by, sym, refl, ap, ◌∙◌, inl, inr, ⊎_elim, arith, length-append, Some, None, Option}
+use Rattle.std.specs.Option.{IsSome}
+use Rattle.std.specs.List.{ContainsAt as Has, enumerate_from, AllByRecursion}
 use Rattle.std.proofs.ByRecursion.{All-push, All-weaker, All-append, has_append_left, has_append_right, has_push}
 use Rattle.std.proofs.lemmas.List.Sums.{sum_by-append}
 use Rattle.std.proofs.lemmas.Bool.{and_parts}
 use Rattle.ir.specs.declared.kinds.Kind.{Kind}
-use Rattle.draft.specs.declared.state.Open.{Open}
-use Rattle.draft.specs.declared.state.Open.TheVariants as open_body
-use Rattle.draft.specs.declared.state.Waits.{Waits}
-use Rattle.draft.specs.declared.state.Waits.TheVariants as waits
+use Rattle.draft.specs.declared.state.BodyKind.{BodyKind}
+use Rattle.draft.specs.declared.state.BodyKind.TheVariants as body_kind
+use Rattle.draft.specs.declared.state.Pieces.{Pieces}
 use Rattle.draft.specs.declared.manner.Manner.{Manner}
 use Rattle.draft.specs.Manner.{manner_of, turn_of}
 use Rattle.rules.specs.Module.{Record, Body, Module}
 use Rattle.draft.specs.State.{State, start, state, stepped, item_of, waiting_after, meets, on_side, innermost, functions_now, entries_now}
 use Rattle.draft.specs.Admitted.{Accepted}
 use Rattle.draft.proofs.Stepping.{Admits, throughout}
-use Rattle.laws.specs.Decoded.{Entry, numbered_from, bodies, Replaced, BodyArrived, ModuleArrived, Decoded}
+use Rattle.laws.specs.Decoded.{Entry, bodies, Replaced, BodyArrived, ModuleArrived, Decoded}
 use Rattle.laws.proofs.Weighing.{standing_weight, waiting_weight, standing_weighs, item_weighs, waiting_push, none_waiting, all_push_weight, list_weight, bodies_weight, module_weight}
 use Rattle.laws.proofs.Arriving.{FineBody, FineModule, sorted_none}
 use Rattle.laws.proofs.KindBytes.{starts_so}
-use Rattle.laws.proofs.Moving.{IsOpen, Good, ReplacedAt, added, moved_at}
+use Rattle.laws.proofs.Moving.{Good, ReplacedAt, added, moved_at}
 
 -- what each record keeps
 record Sound (m : List Record) (s : State) : Type 0 where
   kept_is : s.kept ≡ length m
   fits : length s.waiting ≤ s.kept
-  idle : s.waits ≡ waits.Nothing → s.waiting ≡ []
+  idle : s.waits ≡ None → s.waiting ≡ []
   good : Good s.built s.opened s.body s.kept
   gone : List Entry
   replaced : AllByRecursion (ReplacedAt s.built s.opened s.body) gone
-  once : (w : Entry → ℕ) → sum_by w (numbered_from 0 m) ≡ standing_weight w s.built s.opened s.body + waiting_weight w s.kept s.waiting + sum_by w gone
+  once : (w : Entry → ℕ) → sum_by w (enumerate_from 0 m) ≡ standing_weight w s.built s.opened s.body + waiting_weight w s.kept s.waiting + sum_by w gone
 
-waits_fit : (j : Waits) (ws : List Record) (r : Record) (n : ℕ) → length ws ≤ n → length (waiting_after j ws r) ≤ n + 1
-waits_fit waits.Nothing ws r n h = omega arith
-waits_fit waits.Members ws r n h = let l = length-append ws (r ∷ []) in omega arith
-waits_fit waits.Operands ws r n h = let l = length-append ws (r ∷ []) in omega arith
+waits_fit : (j : Option Pieces) (ws : List Record) (r : Record) (n : ℕ) → length ws ≤ n → length (waiting_after j ws r) ≤ n + 1
+waits_fit None ws r n h = omega arith
+waits_fit (Some p) ws r n h = let l = length-append ws (r ∷ []) in omega arith
 
 -- a record is in the item that it makes, or it waits
-gains : (w : Entry → ℕ) (j : Waits) (n : ℕ) (ws : List Record) (r : Record) → length ws ≤ n → added w j (record { place = n; bytes = r; taken = ws }) + waiting_weight w (n + 1) (waiting_after j ws r) ≡ waiting_weight w n ws + w (n, r)
-gains w waits.Nothing n ws r h = let a = item_weighs w n ws r h in let b = none_waiting w (n + 1) in omega arith
-gains w waits.Members n ws r h = let a = waiting_push w n ws r h in omega arith
-gains w waits.Operands n ws r h = let a = waiting_push w n ws r h in omega arith
+gains : (w : Entry → ℕ) (j : Option Pieces) (n : ℕ) (ws : List Record) (r : Record) → length ws ≤ n → added w j (record { place = n; bytes = r; taken = ws }) + waiting_weight w (n + 1) (waiting_after j ws r) ≡ waiting_weight w n ws + w (n, r)
+gains w None n ws r h = let a = item_weighs w n ws r h in let b = none_waiting w (n + 1) in omega arith
+gains w (Some p) n ws r h = let a = waiting_push w n ws r h in omega arith
 
 -- a record that neither joins nor takes comes where nothing waits
-none_waits : (w : Waits) (n : Manner) → meets w n ≡ true → n.joins ≡ waits.Nothing → n.takes ≡ waits.Nothing → w ≡ waits.Nothing
-none_waits waits.Nothing n h j t = refl
-none_waits waits.Members n h j t = let f : false ≡ true = simp (j, t) at h in let z : ◌≡◌ {A = ℕ} 0 1 = cc in absurd (omega arith)
-none_waits waits.Operands n h j t = let f : false ≡ true = simp (j, t) at h in let z : ◌≡◌ {A = ℕ} 0 1 = cc in absurd (omega arith)
+none_waits : (w : Option Pieces) (n : Manner) → meets w n ≡ true → n.joins ≡ None → n.takes ≡ None → w ≡ None
+none_waits None n h j t = refl
+none_waits (Some p) n h j t = let f : false ≡ true = simp (j, t) at h in absurd cc
 
 sound_next : (m : List Record) (s : State) (r : Record) (k : Kind) → Admits s r k → Sound m s → Sound (m ++ r ∷ []) (stepped k r s)
 sound_next m s r k a x =
@@ -82,7 +79,7 @@ sound_start =
       idle = λ e. refl;
       good = record {
         built = record { types = none; overrides = none; constants = none; globals = none; special = tt; predeclared = none; filters = none; leaf = tt; expressions = none; functions = none; entries = none; in_functions = tt; in_entries = tt };
-        body = λ h. absurd h;
+        body = λ h. absurd cc;
         unended = refl;
       };
       gone = [];
@@ -91,25 +88,25 @@ sound_start =
     }
 
 -- the bodies that ended, and the open one
-all_bodies : (P : Body → Type 0) (o : Open) (m : Module) (b : Body) → AllByRecursion P m.functions → AllByRecursion P m.entries → (IsOpen o → P b) → AllByRecursion P (functions_now o m b ++ entries_now o m b)
-all_bodies P open_body.Nothing m b f e h = All-append P m.functions m.entries f e
-all_bodies P open_body.Function m b f e h = All-append P (m.functions ++ b ∷ []) m.entries (All-push P m.functions b f (h tt)) e
-all_bodies P open_body.EntryPoint m b f e h = All-append P m.functions (m.entries ++ b ∷ []) f (All-push P m.entries b e (h tt))
+all_bodies : (P : Body → Type 0) (o : Option BodyKind) (m : Module) (b : Body) → AllByRecursion P m.functions → AllByRecursion P m.entries → (IsSome o → P b) → AllByRecursion P (functions_now o m b ++ entries_now o m b)
+all_bodies P None m b f e h = All-append P m.functions m.entries f e
+all_bodies P (Some body_kind.Function) m b f e h = All-append P (m.functions ++ b ∷ []) m.entries (All-push P m.functions b f (h refl)) e
+all_bodies P (Some body_kind.EntryPoint) m b f e h = All-append P m.functions (m.entries ++ b ∷ []) f (All-push P m.entries b e (h refl))
 
-has_function : (o : Open) (m : Module) (b x : Body) → Has m.functions x → Has (functions_now o m b ++ entries_now o m b) x
-has_function open_body.Nothing m b x h = has_append_left m.functions m.entries x h
-has_function open_body.Function m b x h = has_append_left (m.functions ++ b ∷ []) m.entries x (has_append_left m.functions (b ∷ []) x h)
-has_function open_body.EntryPoint m b x h = has_append_left m.functions (m.entries ++ b ∷ []) x h
+has_function : (o : Option BodyKind) (m : Module) (b x : Body) → Has m.functions x → Has (functions_now o m b ++ entries_now o m b) x
+has_function None m b x h = has_append_left m.functions m.entries x h
+has_function (Some body_kind.Function) m b x h = has_append_left (m.functions ++ b ∷ []) m.entries x (has_append_left m.functions (b ∷ []) x h)
+has_function (Some body_kind.EntryPoint) m b x h = has_append_left m.functions (m.entries ++ b ∷ []) x h
 
-has_entry : (o : Open) (m : Module) (b x : Body) → Has m.entries x → Has (functions_now o m b ++ entries_now o m b) x
-has_entry open_body.Nothing m b x h = has_append_right m.functions m.entries x h
-has_entry open_body.Function m b x h = has_append_right (m.functions ++ b ∷ []) m.entries x h
-has_entry open_body.EntryPoint m b x h = has_append_right m.functions (m.entries ++ b ∷ []) x (has_append_left m.entries (b ∷ []) x h)
+has_entry : (o : Option BodyKind) (m : Module) (b x : Body) → Has m.entries x → Has (functions_now o m b ++ entries_now o m b) x
+has_entry None m b x h = has_append_right m.functions m.entries x h
+has_entry (Some body_kind.Function) m b x h = has_append_right (m.functions ++ b ∷ []) m.entries x h
+has_entry (Some body_kind.EntryPoint) m b x h = has_append_right m.functions (m.entries ++ b ∷ []) x (has_append_left m.entries (b ∷ []) x h)
 
-has_open : (o : Open) (m : Module) (b : Body) → IsOpen o → Has (functions_now o m b ++ entries_now o m b) b
-has_open open_body.Nothing m b h = absurd h
-has_open open_body.Function m b h = has_append_left (m.functions ++ b ∷ []) m.entries b (has_push m.functions b)
-has_open open_body.EntryPoint m b h = has_append_right m.functions (m.entries ++ b ∷ []) b (has_push m.entries b)
+has_open : (o : Option BodyKind) (m : Module) (b : Body) → IsSome o → Has (functions_now o m b ++ entries_now o m b) b
+has_open None m b h = absurd cc
+has_open (Some body_kind.Function) m b h = has_append_left (m.functions ++ b ∷ []) m.entries b (has_push m.functions b)
+has_open (Some body_kind.EntryPoint) m b h = has_append_right m.functions (m.entries ++ b ∷ []) b (has_push m.entries b)
 
 replaced_so : (s : State) (e : Entry) → ReplacedAt s.built s.opened s.body e → Replaced s e
 replaced_so s e =

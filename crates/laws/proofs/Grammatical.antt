@@ -1,5 +1,5 @@
 -- The statements of every body that has ended are a block.
-use Rattle.std.proofs.Common.{◌≡◌, ℕ, true, List, [], ◌∷◌, ◌++◌, is_some, Ok, sym, refl, ap, ◌∙◌, subst, append_assoc, append-nil, arith}
+use Rattle.std.proofs.Common.{◌≡◌, ℕ, true, List, [], ◌∷◌, ◌++◌, is_some, Ok, sym, refl, ap, ◌∙◌, subst, append_assoc, append-nil, Some, None, Option}
 use Rattle.std.specs.List.{AllByRecursion}
 use Rattle.std.proofs.lemmas.Bool.{and_parts}
 use Rattle.std.proofs.ByRecursion.{All-push}
@@ -8,10 +8,9 @@ use Rattle.ir.specs.declared.kinds.Kind.TheVariants as kind
 use Rattle.ir.specs.declared.kinds.Expression.{Expression}
 use Rattle.ir.specs.Number.{number_of}
 use Rattle.records.specs.Record.{judged}
-use Rattle.draft.specs.declared.state.Open.{Open}
-use Rattle.draft.specs.declared.state.Open.TheVariants as open_body
+use Rattle.draft.specs.declared.state.BodyKind.{BodyKind}
+use Rattle.draft.specs.declared.state.BodyKind.TheVariants as body_kind
 use Rattle.draft.specs.declared.state.Bracket.{Bracket}
-use Rattle.draft.specs.declared.state.Bracket.TheVariants as bracket
 use Rattle.draft.specs.declared.manner.Side.TheVariants as side
 use Rattle.draft.specs.declared.manner.Motion.TheVariants as motion
 use Rattle.draft.specs.Manner.{manner_of, turn_of}
@@ -34,7 +33,7 @@ record Running (s : State) : Type 0 where
   functions : AllByRecursion Ended s.built.functions
   entries : AllByRecursion Ended s.built.entries
   so_far : (tail : List ℕ) → Closing s.brackets tail → Block (kinds s.body.statements ++ tail)
-  outside : s.opened ≡ open_body.Nothing → s.brackets ≡ []
+  outside : s.opened ≡ None → s.brackets ≡ []
 
 -- what a record in place says: its side, and that it fits the brackets
 record Placed (s : State) (k : Kind) : Type 0 where
@@ -49,27 +48,19 @@ placed s r k a =
     record { on = q.0; turns = q.1 }
 
 -- inside of a body one is open
-not_outside : (o : Open) (bs : List Bracket) → on_side o side.Inside ≡ true → o ≡ open_body.Nothing → bs ≡ []
-not_outside open_body.Nothing bs h e = let z : ◌≡◌ {A = ℕ} 0 1 = cc in absurd (omega arith)
-not_outside open_body.Function bs h e = let z : ◌≡◌ {A = ℕ} 0 1 = cc in absurd (omega arith)
-not_outside open_body.EntryPoint bs h e = let z : ◌≡◌ {A = ℕ} 0 1 = cc in absurd (omega arith)
+not_outside : (o : Option BodyKind) (bs : List Bracket) → on_side o side.Inside ≡ true → o ≡ None → bs ≡ []
+not_outside None bs h e = absurd cc
+not_outside (Some k) bs h e = absurd cc
 
 -- outside of every body none is
-is_outside : (o : Open) → on_side o side.Outside ≡ true → o ≡ open_body.Nothing
-is_outside open_body.Nothing h = refl
-is_outside open_body.Function h = let z : ◌≡◌ {A = ℕ} 0 1 = cc in absurd (omega arith)
-is_outside open_body.EntryPoint h = let z : ◌≡◌ {A = ℕ} 0 1 = cc in absurd (omega arith)
+is_outside : (o : Option BodyKind) → on_side o side.Outside ≡ true → o ≡ None
+is_outside None h = refl
+is_outside (Some k) h = absurd cc
 
 -- where a body may end, no bracket is open
 no_bracket : (bs : List Bracket) → is_some (turn_of (innermost bs) motion.Finish) ≡ true → bs ≡ []
 no_bracket [] h = refl
-no_bracket (bracket.Block ∷ bs) h = let z : ◌≡◌ {A = ℕ} 0 1 = cc in absurd (omega arith)
-no_bracket (bracket.Accept ∷ bs) h = let z : ◌≡◌ {A = ℕ} 0 1 = cc in absurd (omega arith)
-no_bracket (bracket.Reject ∷ bs) h = let z : ◌≡◌ {A = ℕ} 0 1 = cc in absurd (omega arith)
-no_bracket (bracket.Switch ∷ bs) h = let z : ◌≡◌ {A = ℕ} 0 1 = cc in absurd (omega arith)
-no_bracket (bracket.Case ∷ bs) h = let z : ◌≡◌ {A = ℕ} 0 1 = cc in absurd (omega arith)
-no_bracket (bracket.Body ∷ bs) h = let z : ◌≡◌ {A = ℕ} 0 1 = cc in absurd (omega arith)
-no_bracket (bracket.Continuing ∷ bs) h = let z : ◌≡◌ {A = ℕ} 0 1 = cc in absurd (omega arith)
+no_bracket (b ∷ bs) h = absurd cc
 
 -- the statements of a body with no open bracket are a block
 whole : (bs : List Bracket) (ks : List ℕ) → bs ≡ [] → ((tail : List ℕ) → Closing bs tail → Block (ks ++ tail)) → Block ks
@@ -77,32 +68,29 @@ whole bs ks none f = subst Block (append-nil ks) (f [] (subst (λ l. Closing l [
 
 -- a body that ends joins its table
 module _ (b : Body) (i : Item) (m : Module) (block : Block (kinds b.statements)) where
-  functions_then : (o : Open) → AllByRecursion Ended m.functions → AllByRecursion Ended (module_after kind.EndFunction o b i m).functions
-  functions_then open_body.Nothing h = h
-  functions_then open_body.Function h = All-push Ended m.functions (closed b i) h block
-  functions_then open_body.EntryPoint h = h
+  functions_then : (o : Option BodyKind) → AllByRecursion Ended m.functions → AllByRecursion Ended (module_after kind.EndFunction o b i m).functions
+  functions_then None h = h
+  functions_then (Some body_kind.Function) h = All-push Ended m.functions (closed b i) h block
+  functions_then (Some body_kind.EntryPoint) h = h
 
-  entries_then : (o : Open) → AllByRecursion Ended m.entries → AllByRecursion Ended (module_after kind.EndFunction o b i m).entries
-  entries_then open_body.Nothing h = h
-  entries_then open_body.Function h = h
-  entries_then open_body.EntryPoint h = All-push Ended m.entries (closed b i) h block
+  entries_then : (o : Option BodyKind) → AllByRecursion Ended m.entries → AllByRecursion Ended (module_after kind.EndFunction o b i m).entries
+  entries_then None h = h
+  entries_then (Some body_kind.Function) h = h
+  entries_then (Some body_kind.EntryPoint) h = All-push Ended m.entries (closed b i) h block
 
 -- an expression is in no table of bodies, and no statement
 module _ (i : Item) where
-  functions_still : (o : Open) (e : Expression) (b : Body) (m : Module) → (module_after (kind.Expression e) o b i m).functions ≡ m.functions
-  functions_still open_body.Nothing e b m = refl
-  functions_still open_body.Function e b m = refl
-  functions_still open_body.EntryPoint e b m = refl
+  functions_still : (o : Option BodyKind) (e : Expression) (b : Body) (m : Module) → (module_after (kind.Expression e) o b i m).functions ≡ m.functions
+  functions_still None e b m = refl
+  functions_still (Some k) e b m = refl
 
-  entries_still : (o : Open) (e : Expression) (b : Body) (m : Module) → (module_after (kind.Expression e) o b i m).entries ≡ m.entries
-  entries_still open_body.Nothing e b m = refl
-  entries_still open_body.Function e b m = refl
-  entries_still open_body.EntryPoint e b m = refl
+  entries_still : (o : Option BodyKind) (e : Expression) (b : Body) (m : Module) → (module_after (kind.Expression e) o b i m).entries ≡ m.entries
+  entries_still None e b m = refl
+  entries_still (Some k) e b m = refl
 
-  statements_still : (o : Open) (e : Expression) (b : Body) → (body_after (kind.Expression e) o i b).statements ≡ b.statements
-  statements_still open_body.Nothing e b = refl
-  statements_still open_body.Function e b = refl
-  statements_still open_body.EntryPoint e b = refl
+  statements_still : (o : Option BodyKind) (e : Expression) (b : Body) → (body_after (kind.Expression e) o i b).statements ≡ b.statements
+  statements_still None e b = refl
+  statements_still (Some k) e b = refl
 
 module _ (s : State) (r : Record) (w : Running s) where
   -- a record that moves no bracket, begins and ends no body, and is no statement
@@ -123,26 +111,12 @@ module _ (s : State) (r : Record) (w : Running s) where
 
   -- each record keeps it
   next : (k : Kind) → Admits s r k → Running (stepped k r s)
-  next kind.Member a = stays (stepped kind.Member r s) refl refl refl refl refl
-  next kind.Operand a = stays (stepped kind.Operand r s) refl refl refl refl refl
-  next kind.Override a = stays (stepped kind.Override r s) refl refl refl refl refl
-  next kind.Constant a = stays (stepped kind.Constant r s) refl refl refl refl refl
-  next kind.GlobalVariable a = stays (stepped kind.GlobalVariable r s) refl refl refl refl refl
-  next kind.SpecialTypes a = stays (stepped kind.SpecialTypes r s) refl refl refl refl refl
-  next kind.Predeclared a = stays (stepped kind.Predeclared r s) refl refl refl refl refl
-  next kind.Filter a = stays (stepped kind.Filter r s) refl refl refl refl refl
-  next kind.Leaf a = stays (stepped kind.Leaf r s) refl refl refl refl refl
   next kind.Function a =
       let none = w.outside (is_outside s.opened (placed s r kind.Function a).on) in
       record { functions = w.functions; entries = w.entries; so_far = λ tail c. subst (λ l. Closing l tail) none c; outside = λ o. none }
   next kind.EntryPoint a =
       let none = w.outside (is_outside s.opened (placed s r kind.EntryPoint a).on) in
       record { functions = w.functions; entries = w.entries; so_far = λ tail c. subst (λ l. Closing l tail) none c; outside = λ o. none }
-  next kind.FunctionArgument a = stays (stepped kind.FunctionArgument r s) refl refl refl refl refl
-  next kind.FunctionResult a = stays (stepped kind.FunctionResult r s) refl refl refl refl refl
-  next kind.LocalVariable a = stays (stepped kind.LocalVariable r s) refl refl refl refl refl
-  next (kind.Type t) a = stays (stepped (kind.Type t) r s) refl refl refl refl refl
-  next kind.Named a = stays (stepped kind.Named r s) refl refl refl refl refl
   next kind.EndFunction a =
       let p = placed s r kind.EndFunction a in
       let none = no_bracket s.brackets p.turns in
@@ -195,6 +169,7 @@ module _ (s : State) (r : Record) (w : Running s) where
         so_far = λ tail x. said kind.EndSwitch a.kind_is tail (switch_end_turn s.brackets tail p.turns x);
         outside = not_outside s.opened _ p.on;
       }
+  next k a = stays (stepped k r s) refl refl refl refl refl
 
 running : (m : List Record) → Accepted start m → Running (state m)
 running m a = throughout (λ l s. Running s) (λ l s r k ad w. next s r w k ad) m a (record { functions = tt; entries = tt; so_far = λ tail c. c; outside = λ o. refl })

@@ -44,29 +44,29 @@ pub numbered : (k : Kind) (b : ℕ) → kind_of b ≡ Some k → b ≡ number_of
 numbered k b e =
     elim (cases_lt b 256) [
       | inl small ↦ only_number k b small e
-      | inr large ↦ let none = too_large b large in let z : ◌≡◌ {A = ℕ} 0 1 = cc in absurd (omega arith)
+      | inr large ↦ let none = too_large b large in absurd cc
     ]
 
 checked_kind : (c : Bool) (j k : Kind) → cond c (Ok j) (Err BadField) ≡ Ok k → j ≡ k
 checked_kind true j k h = cc
-checked_kind false j k h = let z : ◌≡◌ {A = ℕ} 0 1 = cc in absurd (omega arith)
+checked_kind false j k h = absurd cc
 
 body_kind : (c : Bool) (j k : Kind) (body : List ℕ) → judged_parts (cond c (Ok (j, body)) (Err WrongLength)) ≡ Ok k → j ≡ k
 body_kind true j k body h = checked_kind (fields_fit (layout j) body) j k h
-body_kind false j k body h = let z : ◌≡◌ {A = ℕ} 0 1 = cc in absurd (omega arith)
+body_kind false j k body h = absurd cc
 
 kind_there : (f : Option Kind) (body : List ℕ) (k : Kind) → judged_parts (body_of f body) ≡ Ok k → f ≡ Some k
-kind_there None body k h = let z : ◌≡◌ {A = ℕ} 0 1 = cc in absurd (omega arith)
+kind_there None body k h = absurd cc
 kind_there (Some j) body k h = ap Some (body_kind (eqb (length body) (size_of (layout j))) j k body h)
 
 -- the kind byte of a record that is judged well
 pub byte_is : (r : Record) (k : Kind) → judged r ≡ Ok k → kind_byte r ≡ number_of k ∷ []
-byte_is [] k h = let z : ◌≡◌ {A = ℕ} 0 1 = cc in absurd (omega arith)
+byte_is [] k h = absurd cc
 byte_is (b ∷ body) k h = ap (λ n. n ∷ []) (numbered k b (kind_there (kind_of b) body k h))
 
 -- a record that is judged well starts with the number of its kind
 pub starts_so : (k : Kind) (r : Record) → judged r ≡ Ok k → Starts r (number_of k)
-starts_so k [] h = let z : ◌≡◌ {A = ℕ} 0 1 = cc in absurd (omega arith)
+starts_so k [] h = absurd cc
 starts_so k (b ∷ body) h = (body, ap (λ n. n ∷ body) (numbered k b (kind_there (kind_of b) body k h)))
 
 -- the kinds of items with one more

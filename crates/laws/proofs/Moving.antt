@@ -1,67 +1,61 @@
 -- What a record does to the module and to the open body: nothing is lost but what a later one replaces.
 use Rattle.std.proofs.Common.{◌≡◌, ℕ, ◌+◌, ◌-◌, ◌<◌, ◌≤◌, true, ◌⊎◌, List, [], ◌∷◌, ◌++◌, length, Some, None, sum_by, Option, sym, refl, ◌∙◌, subst, inl, inr, ⊎_elim, arith}
 use Rattle.draft.proofs.Tallying.{statement_stays}
-use Rattle.std.specs.List.{ContainsAt as Has, AllByRecursion}
+use Rattle.std.proofs.lemmas.Bool.{false≢true}
+use Rattle.std.specs.Option.{IsSome}
+use Rattle.std.specs.List.{ContainsAt as Has, enumerate_from, AllByRecursion}
 use Rattle.std.proofs.ByRecursion.{has_append_left, has_push}
 use Rattle.ir.specs.declared.kinds.Kind.{Kind}
 use Rattle.ir.specs.declared.kinds.Kind.TheVariants as kind
 use Rattle.ir.specs.Number.{number_of}
-use Rattle.draft.specs.declared.state.Open.{Open}
-use Rattle.draft.specs.declared.state.Open.TheVariants as open_body
-use Rattle.draft.specs.declared.state.Waits.{Waits}
-use Rattle.draft.specs.declared.state.Waits.TheVariants as waits
+use Rattle.draft.specs.declared.state.BodyKind.{BodyKind}
+use Rattle.draft.specs.declared.state.BodyKind.TheVariants as body_kind
+use Rattle.draft.specs.declared.state.Pieces.{Pieces}
+use Rattle.draft.specs.declared.state.Pieces.TheVariants as pieces
 use Rattle.draft.specs.declared.manner.Side.TheVariants as side
 use Rattle.draft.specs.Manner.{manner_of}
 use Rattle.rules.specs.Module.{Item, Body, Module, nobody, opened_by, add_type, add_override, add_constant, add_global, set_special, add_predeclared, add_filter, set_leaf, add_expression, add_function, add_entry, add_argument, set_result, add_local, add_named, add_inner, add_statement, closed}
 use Rattle.draft.specs.State.{on_side, open_after, module_after, body_after}
-use Rattle.laws.specs.Decoded.{Entry, numbered_from, entries_of_any, Later, Starts}
+use Rattle.laws.specs.Decoded.{Entry, entries_of_any, Later, Starts}
 use Rattle.laws.proofs.Weighing.{item_weight, body_weight, open_weight, module_weight, standing_weight, any_weighs, type_weight, override_weight, constant_weight, global_weight, predeclared_weight, filter_weight, expression_weight, special_weight, leaf_weight, function_weight, entry_weight, argument_weight, result_weight, local_weight, named_weight, inner_weight, statement_weight, closed_weight, opened_weight}
 use Rattle.laws.proofs.Arriving.{Marked, FineBody, FineModule, body_later, module_later, fine_argument, fine_result, fine_local, fine_named, fine_inner, fine_statement, fine_closed, fine_opened, fine_type, fine_override, fine_constant, fine_global, fine_special, fine_predeclared, fine_filter, fine_leaf, fine_expression, fine_function, fine_entry}
 
-abbrev pub IsOpen : Open → Type 0
-IsOpen open_body.Nothing = ⊥
-IsOpen open_body.Function = Unit {0}
-IsOpen open_body.EntryPoint = Unit {0}
-
 -- the bodies that ended were opened before the open one, else before n
-abbrev pub low_of : Open → ℕ → ℕ → ℕ
-low_of open_body.Nothing p n = n
-low_of open_body.Function p n = p
-low_of open_body.EntryPoint p n = p
+abbrev pub low_of : Option BodyKind → ℕ → ℕ → ℕ
+low_of None p n = n
+low_of (Some k) p n = p
 
-low_later : (o : Open) (p n : ℕ) → low_of o p n ≤ low_of o p (n + 1)
-low_later open_body.Nothing p n = omega arith
-low_later open_body.Function p n = omega arith
-low_later open_body.EntryPoint p n = omega arith
+low_later : (o : Option BodyKind) (p n : ℕ) → low_of o p n ≤ low_of o p (n + 1)
+low_later None p n = omega arith
+low_later (Some k) p n = omega arith
 
-pub record Good (m : Module) (o : Open) (b : Body) (n : ℕ) : Type 0 where
+pub record Good (m : Module) (o : Option BodyKind) (b : Body) (n : ℕ) : Type 0 where
   pub built : FineModule (low_of o b.opener.place n) n m
-  pub body : IsOpen o → FineBody n b
+  pub body : IsSome o → FineBody n b
   pub unended : b.ending ≡ None
 
 -- a result of the body that a later one of it replaced
 abbrev pub OverIn : List Body → ℕ → Type 0
 OverIn bs p = (b : Body) × Has bs b × (b.opener.place < p) × Later b.result p
 
-abbrev pub OverOpen : Open → Body → ℕ → Type 0
-OverOpen o b p = IsOpen o × (b.opener.place < p) × Later b.result p
+abbrev pub OverOpen : Option BodyKind → Body → ℕ → Type 0
+OverOpen o b p = IsSome o × (b.opener.place < p) × Later b.result p
 
-abbrev pub Overtaken : Module → Open → Body → ℕ → Type 0
+abbrev pub Overtaken : Module → Option BodyKind → Body → ℕ → Type 0
 Overtaken m o b p = OverIn m.functions p ⊎ (OverIn m.entries p ⊎ OverOpen o b p)
 
-abbrev pub ReplacedAt : Module → Open → Body → Entry → Type 0
+abbrev pub ReplacedAt : Module → Option BodyKind → Body → Entry → Type 0
 ReplacedAt m o b e =
     (Starts e.1 6 × Later m.special e.0)
     ⊎ ((Starts e.1 9 × Later m.leaf e.0)
     ⊎ (Starts e.1 14 × Overtaken m o b e.0))
 
 -- what the module gains: an item that joins others adds nothing yet
-abbrev pub added : (Entry → ℕ) → Waits → Item → ℕ
-added w waits.Nothing i = item_weight w i
-added w waits.Members i = 0
-added w waits.Operands i = 0
+abbrev pub added : (Entry → ℕ) → Option Pieces → Item → ℕ
+added w None i = item_weight w i
+added w (Some p) i = 0
 
-pub record Moved (n : ℕ) (j : Waits) (i : Item) (m : Module) (o : Open) (b : Body) (m' : Module) (o' : Open) (b' : Body) : Type 0 where
+pub record Moved (n : ℕ) (j : Option Pieces) (i : Item) (m : Module) (o : Option BodyKind) (b : Body) (m' : Module) (o' : Option BodyKind) (b' : Body) : Type 0 where
   pub good : Good m' o' b' (n + 1)
   pub carried : (e : Entry) → ReplacedAt m o b e → ReplacedAt m' o' b' e
   pub gone : List Entry
@@ -74,23 +68,17 @@ fallen P k low n None x f = tt
 fallen P k low n (Some i) x f =
     let l = x.above in
     let h = x.below in
-    subst (λ t. AllByRecursion P (numbered_from (i.place - length t) (t ++ i.bytes ∷ []))) (sym x.bare) (f (i.place - 0, i.bytes) x.starts (omega arith) (omega arith), tt)
+    subst (λ t. AllByRecursion P (enumerate_from (i.place - length t) (t ++ i.bytes ∷ []))) (sym x.bare) (f (i.place - 0, i.bytes) x.starts (omega arith) (omega arith), tt)
 
 later_grows : (k low n : ℕ) (o : Option Item) (i : Item) → Marked k low n o → i.place ≡ n → (p : ℕ) → Later o p → Later (Some i) p
 later_grows k low n None i x at p h = absurd h
 later_grows k low n (Some j) i x at p h = let l = x.below in omega arith
 
-open_is : (w : Entry → ℕ) (o : Open) (b : Body) → IsOpen o → open_weight w o b ≡ body_weight w b
-open_is w open_body.Nothing b h = absurd h
-open_is w open_body.Function b h = refl
-open_is w open_body.EntryPoint b h = refl
+open_is : (w : Entry → ℕ) (o : Option BodyKind) (b : Body) → IsSome o → open_weight w o b ≡ body_weight w b
+open_is w None b h = absurd cc
+open_is w (Some k) b h = refl
 
-inside_open : (o : Open) → on_side o side.Inside ≡ true → IsOpen o
-inside_open open_body.Nothing h = let z : ◌≡◌ {A = ℕ} 0 1 = cc in absurd (omega arith)
-inside_open open_body.Function h = tt
-inside_open open_body.EntryPoint h = tt
-
-module _ (n : ℕ) (i : Item) (at : i.place ≡ n) (m : Module) (o : Open) (b : Body) (good : Good m o b n) where
+module _ (n : ℕ) (i : Item) (at : i.place ≡ n) (m : Module) (o : Option BodyKind) (b : Body) (good : Good m o b n) where
   abbrev low : ℕ
   low = low_of o b.opener.place n
 
@@ -100,14 +88,14 @@ module _ (n : ℕ) (i : Item) (at : i.place ≡ n) (m : Module) (o : Open) (b : 
   low_grows : low ≤ next_low
   low_grows = low_later o b.opener.place n
 
-  body_next : IsOpen o → FineBody (n + 1) b
+  body_next : IsSome o → FineBody (n + 1) b
   body_next h = body_later n (n + 1) (omega arith) b (good.body h)
 
   built_next : FineModule next_low (n + 1) m
   built_next = module_later low next_low n (n + 1) low_grows (omega arith) m good.built
 
   -- a record that waits
-  waits_moved : (j : Waits) → ((w : Entry → ℕ) → added w j i ≡ 0) → Moved n j i m o b m o b
+  waits_moved : (j : Option Pieces) → ((w : Entry → ℕ) → added w j i ≡ 0) → Moved n j i m o b m o b
   waits_moved j none = record {
     good = record { built = built_next; body = body_next; unended = good.unended };
     carried = λ e x. x;
@@ -117,7 +105,7 @@ module _ (n : ℕ) (i : Item) (at : i.place ≡ n) (m : Module) (o : Open) (b : 
   }
 
   -- an item more in the module
-  into_module : (m' : Module) → FineModule next_low (n + 1) m' → ((e : Entry) → ReplacedAt m o b e → ReplacedAt m' o b e) → ((w : Entry → ℕ) → module_weight w m' ≡ module_weight w m + item_weight w i) → Moved n waits.Nothing i m o b m' o b
+  into_module : (m' : Module) → FineModule next_low (n + 1) m' → ((e : Entry) → ReplacedAt m o b e → ReplacedAt m' o b e) → ((w : Entry → ℕ) → module_weight w m' ≡ module_weight w m + item_weight w i) → Moved n None i m o b m' o b
   into_module m' fine carried weighs = record {
     good = record { built = fine; body = body_next; unended = good.unended };
     carried = carried;
@@ -126,7 +114,7 @@ module _ (n : ℕ) (i : Item) (at : i.place ≡ n) (m : Module) (o : Open) (b : 
     once = λ w. let z = weighs w in omega arith;
   }
 
-  special_moved : Starts i.bytes 6 → i.taken ≡ [] → Moved n waits.Nothing i m o b (set_special m i) o b
+  special_moved : Starts i.bytes 6 → i.taken ≡ [] → Moved n None i m o b (set_special m i) o b
   special_moved starts bare = record {
     good = record { built = fine_special n i at low next_low m low_grows starts bare good.built; body = body_next; unended = good.unended };
     carried = λ e. ⊎_elim (λ x. inl (x.0, later_grows 6 0 n m.special i good.built.special at e.0 x.1)) inr;
@@ -135,7 +123,7 @@ module _ (n : ℕ) (i : Item) (at : i.place ≡ n) (m : Module) (o : Open) (b : 
     once = λ w. let z = special_weight w m i in let y = any_weighs w m.special in omega arith;
   }
 
-  leaf_moved : Starts i.bytes 9 → i.taken ≡ [] → Moved n waits.Nothing i m o b (set_leaf m i) o b
+  leaf_moved : Starts i.bytes 9 → i.taken ≡ [] → Moved n None i m o b (set_leaf m i) o b
   leaf_moved starts bare = record {
     good = record { built = fine_leaf n i at low next_low m low_grows starts bare good.built; body = body_next; unended = good.unended };
     carried = λ e. ⊎_elim inl (⊎_elim (λ x. inr (inl (x.0, later_grows 9 0 n m.leaf i good.built.leaf at e.0 x.1))) (λ x. inr (inr x)));
@@ -144,9 +132,9 @@ module _ (n : ℕ) (i : Item) (at : i.place ≡ n) (m : Module) (o : Open) (b : 
     once = λ w. let z = leaf_weight w m i in let y = any_weighs w m.leaf in omega arith;
   }
 
-  module _ (inside : IsOpen o) where
+  module _ (inside : IsSome o) where
     -- an item more in the open body
-    into_body : (b' : Body) → b'.opener ≡ b.opener → b'.ending ≡ b.ending → FineBody (n + 1) b' → ((e : Entry) → ReplacedAt m o b e → ReplacedAt m o b' e) → ((w : Entry → ℕ) → body_weight w b' ≡ body_weight w b + item_weight w i) → Moved n waits.Nothing i m o b m o b'
+    into_body : (b' : Body) → b'.opener ≡ b.opener → b'.ending ≡ b.ending → FineBody (n + 1) b' → ((e : Entry) → ReplacedAt m o b e → ReplacedAt m o b' e) → ((w : Entry → ℕ) → body_weight w b' ≡ body_weight w b + item_weight w i) → Moved n None i m o b m o b'
     into_body b' same ends fine carried weighs = record {
       good = record { built = subst (λ x. FineModule (low_of o x.place (n + 1)) (n + 1) m) (sym same) built_next; body = λ h. fine; unended = ends ∙ good.unended };
       carried = carried;
@@ -155,7 +143,7 @@ module _ (n : ℕ) (i : Item) (at : i.place ≡ n) (m : Module) (o : Open) (b : 
       once = λ w. let z = weighs w in let x = open_is w o b inside in let y = open_is w o b' inside in omega arith;
     }
 
-    result_moved : Starts i.bytes 14 → i.taken ≡ [] → Moved n waits.Nothing i m o b m o (set_result b i)
+    result_moved : Starts i.bytes 14 → i.taken ≡ [] → Moved n None i m o b m o (set_result b i)
     result_moved starts bare =
         let f = good.body inside in
         record {
@@ -167,26 +155,26 @@ module _ (n : ℕ) (i : Item) (at : i.place ≡ n) (m : Module) (o : Open) (b : 
         }
 
 -- a body that opens
-module _ (n : ℕ) (i : Item) (at : i.place ≡ n) (m : Module) (b : Body) (good : Good m open_body.Nothing b n) where
+module _ (n : ℕ) (i : Item) (at : i.place ≡ n) (m : Module) (b : Body) (good : Good m None b n) where
   opens_low : FineModule i.place (n + 1) m
   opens_low = module_later n i.place n (n + 1) (omega arith) (omega arith) m good.built
 
-  none_over : (o : Open) (b' : Body) (e : Entry) → ReplacedAt m open_body.Nothing b e → ReplacedAt m o b' e
-  none_over o b' e = ⊎_elim inl (⊎_elim (λ x. inr (inl x)) (λ x. inr (inr (x.0, ⊎_elim inl (⊎_elim (λ y. inr (inl y)) (λ y. absurd y.0)) x.1))))
+  none_over : (o : Option BodyKind) (b' : Body) (e : Entry) → ReplacedAt m None b e → ReplacedAt m o b' e
+  none_over o b' e = ⊎_elim inl (⊎_elim (λ x. inr (inl x)) (λ x. inr (inr (x.0, ⊎_elim inl (⊎_elim (λ y. inr (inl y)) (λ y. absurd (false≢true y.0))) x.1))))
 
-  function_opens : Moved n waits.Nothing i m open_body.Nothing b m open_body.Function (opened_by i)
+  function_opens : Moved n None i m None b m (Some body_kind.Function) (opened_by i)
   function_opens = record {
     good = record { built = opens_low; body = λ h. fine_opened n i at; unended = refl };
-    carried = none_over open_body.Function (opened_by i);
+    carried = none_over (Some body_kind.Function) (opened_by i);
     gone = [];
     replaced = tt;
     once = λ w. let z = opened_weight w i in omega arith;
   }
 
-  entry_opens : Moved n waits.Nothing i m open_body.Nothing b m open_body.EntryPoint (opened_by i)
+  entry_opens : Moved n None i m None b m (Some body_kind.EntryPoint) (opened_by i)
   entry_opens = record {
     good = record { built = opens_low; body = λ h. fine_opened n i at; unended = refl };
-    carried = none_over open_body.EntryPoint (opened_by i);
+    carried = none_over (Some body_kind.EntryPoint) (opened_by i);
     gone = [];
     replaced = tt;
     once = λ w. let z = opened_weight w i in omega arith;
@@ -194,43 +182,43 @@ module _ (n : ℕ) (i : Item) (at : i.place ≡ n) (m : Module) (b : Body) (good
 
 -- a body that ends joins its table
 module _ (n : ℕ) (i : Item) (at : i.place ≡ n) (m : Module) (b : Body) where
-  over_closed : (bs : List Body) (o : Open) (p : ℕ) → OverOpen o b p → OverIn (bs ++ closed b i ∷ []) p
+  over_closed : (bs : List Body) (o : Option BodyKind) (p : ℕ) → OverOpen o b p → OverIn (bs ++ closed b i ∷ []) p
   over_closed bs o p y = (closed b i, has_push bs (closed b i), y.1, y.2)
 
   over_more : (bs : List Body) (p : ℕ) → OverIn bs p → OverIn (bs ++ closed b i ∷ []) p
   over_more bs p y = (y.0, has_append_left bs (closed b i ∷ []) y.0 y.1, y.2, y.3)
 
-  function_ends : Good m open_body.Function b n → Moved n waits.Nothing i m open_body.Function b (add_function m (closed b i)) open_body.Nothing nobody
+  function_ends : Good m (Some body_kind.Function) b n → Moved n None i m (Some body_kind.Function) b (add_function m (closed b i)) None nobody
   function_ends good =
-      let f = fine_closed n i at b i (good.body tt) in
+      let f = fine_closed n i at b i (good.body refl) in
       let g = module_later b.opener.place b.opener.place n (n + 1) (omega arith) (omega arith) m good.built in
       record {
-        good = record { built = fine_function b.opener.place (n + 1) m (closed b i) refl f g; body = λ h. absurd h; unended = refl };
-        carried = λ e. ⊎_elim inl (⊎_elim (λ x. inr (inl x)) (λ x. inr (inr (x.0, ⊎_elim (λ y. inl (over_more m.functions e.0 y)) (⊎_elim (λ y. inr (inl y)) (λ y. inl (over_closed m.functions open_body.Function e.0 y))) x.1))));
+        good = record { built = fine_function b.opener.place (n + 1) m (closed b i) refl f g; body = λ h. absurd cc; unended = refl };
+        carried = λ e. ⊎_elim inl (⊎_elim (λ x. inr (inl x)) (λ x. inr (inr (x.0, ⊎_elim (λ y. inl (over_more m.functions e.0 y)) (⊎_elim (λ y. inr (inl y)) (λ y. inl (over_closed m.functions (Some body_kind.Function) e.0 y))) x.1))));
         gone = [];
         replaced = tt;
         once = λ w. let z = function_weight w m (closed b i) in let y = closed_weight w b i good.unended in omega arith;
       }
 
-  entry_ends : Good m open_body.EntryPoint b n → Moved n waits.Nothing i m open_body.EntryPoint b (add_entry m (closed b i)) open_body.Nothing nobody
+  entry_ends : Good m (Some body_kind.EntryPoint) b n → Moved n None i m (Some body_kind.EntryPoint) b (add_entry m (closed b i)) None nobody
   entry_ends good =
-      let f = fine_closed n i at b i (good.body tt) in
+      let f = fine_closed n i at b i (good.body refl) in
       let g = module_later b.opener.place b.opener.place n (n + 1) (omega arith) (omega arith) m good.built in
       record {
-        good = record { built = fine_entry b.opener.place (n + 1) m (closed b i) refl f g; body = λ h. absurd h; unended = refl };
-        carried = λ e. ⊎_elim inl (⊎_elim (λ x. inr (inl x)) (λ x. inr (inr (x.0, ⊎_elim inl (⊎_elim (λ y. inr (inl (over_more m.entries e.0 y))) (λ y. inr (inl (over_closed m.entries open_body.EntryPoint e.0 y)))) x.1))));
+        good = record { built = fine_entry b.opener.place (n + 1) m (closed b i) refl f g; body = λ h. absurd cc; unended = refl };
+        carried = λ e. ⊎_elim inl (⊎_elim (λ x. inr (inl x)) (λ x. inr (inr (x.0, ⊎_elim inl (⊎_elim (λ y. inr (inl (over_more m.entries e.0 y))) (λ y. inr (inl (over_closed m.entries (Some body_kind.EntryPoint) e.0 y)))) x.1))));
         gone = [];
         replaced = tt;
         once = λ w. let z = entry_weight w m (closed b i) in let y = closed_weight w b i good.unended in omega arith;
       }
 
 module _ (n : ℕ) (i : Item) (at : i.place ≡ n) (m : Module) (b : Body) where
-  abbrev After : Kind → Open → Type 0
+  abbrev After : Kind → Option BodyKind → Type 0
   After k o = Moved n (manner_of k).joins i m o b (module_after k o b i m) (open_after (manner_of k).motion o) (body_after k o i b)
 
-  pub moved_at : (k : Kind) (o : Open) → Good m o b n → on_side o (manner_of k).side ≡ true → Starts i.bytes (number_of k) → ((manner_of k).joins ≡ waits.Nothing → (manner_of k).takes ≡ waits.Nothing → i.taken ≡ []) → After k o
-  moved_at kind.Member o g h s t = waits_moved n i at m o b g waits.Members (λ w. refl)
-  moved_at kind.Operand o g h s t = waits_moved n i at m o b g waits.Operands (λ w. refl)
+  pub moved_at : (k : Kind) (o : Option BodyKind) → Good m o b n → on_side o (manner_of k).side ≡ true → Starts i.bytes (number_of k) → ((manner_of k).joins ≡ None → (manner_of k).takes ≡ None → i.taken ≡ []) → After k o
+  moved_at kind.Member o g h s t = waits_moved n i at m o b g (Some pieces.Members) (λ w. refl)
+  moved_at kind.Operand o g h s t = waits_moved n i at m o b g (Some pieces.Operands) (λ w. refl)
   moved_at kind.Override o g h s t = into_module n i at m o b g (add_override m i) (fine_override n i at (low_of o b.opener.place n) (low_of o b.opener.place (n + 1)) m (low_later o b.opener.place n) g.built) (λ e x. x) (λ w. override_weight w m i)
   moved_at kind.Constant o g h s t = into_module n i at m o b g (add_constant m i) (fine_constant n i at (low_of o b.opener.place n) (low_of o b.opener.place (n + 1)) m (low_later o b.opener.place n) g.built) (λ e x. x) (λ w. constant_weight w m i)
   moved_at kind.GlobalVariable o g h s t = into_module n i at m o b g (add_global m i) (fine_global n i at (low_of o b.opener.place n) (low_of o b.opener.place (n + 1)) m (low_later o b.opener.place n) g.built) (λ e x. x) (λ w. global_weight w m i)
@@ -238,25 +226,19 @@ module _ (n : ℕ) (i : Item) (at : i.place ≡ n) (m : Module) (b : Body) where
   moved_at kind.Predeclared o g h s t = into_module n i at m o b g (add_predeclared m i) (fine_predeclared n i at (low_of o b.opener.place n) (low_of o b.opener.place (n + 1)) m (low_later o b.opener.place n) g.built) (λ e x. x) (λ w. predeclared_weight w m i)
   moved_at kind.Filter o g h s t = into_module n i at m o b g (add_filter m i) (fine_filter n i at (low_of o b.opener.place n) (low_of o b.opener.place (n + 1)) m (low_later o b.opener.place n) g.built) (λ e x. x) (λ w. filter_weight w m i)
   moved_at kind.Leaf o g h s t = leaf_moved n i at m o b g s (t refl refl)
-  moved_at kind.Function open_body.Nothing g h s t = function_opens n i at m b g
-  moved_at kind.Function open_body.Function g h s t = let z : ◌≡◌ {A = ℕ} 0 1 = cc in absurd (omega arith)
-  moved_at kind.Function open_body.EntryPoint g h s t = let z : ◌≡◌ {A = ℕ} 0 1 = cc in absurd (omega arith)
-  moved_at kind.EntryPoint open_body.Nothing g h s t = entry_opens n i at m b g
-  moved_at kind.EntryPoint open_body.Function g h s t = let z : ◌≡◌ {A = ℕ} 0 1 = cc in absurd (omega arith)
-  moved_at kind.EntryPoint open_body.EntryPoint g h s t = let z : ◌≡◌ {A = ℕ} 0 1 = cc in absurd (omega arith)
-  moved_at kind.FunctionArgument o g h s t = into_body n i at m o b g (inside_open o h) (add_argument b i) refl refl (fine_argument n i at b (g.body (inside_open o h))) (λ e x. x) (λ w. argument_weight w b i)
-  moved_at kind.FunctionResult o g h s t = result_moved n i at m o b g (inside_open o h) s (t refl refl)
-  moved_at kind.LocalVariable o g h s t = into_body n i at m o b g (inside_open o h) (add_local b i) refl refl (fine_local n i at b (g.body (inside_open o h))) (λ e x. x) (λ w. local_weight w b i)
+  moved_at kind.Function None g h s t = function_opens n i at m b g
+  moved_at kind.Function (Some k) g h s t = absurd cc
+  moved_at kind.EntryPoint None g h s t = entry_opens n i at m b g
+  moved_at kind.EntryPoint (Some k) g h s t = absurd cc
+  moved_at kind.FunctionArgument o g h s t = into_body n i at m o b g h (add_argument b i) refl refl (fine_argument n i at b (g.body h)) (λ e x. x) (λ w. argument_weight w b i)
+  moved_at kind.FunctionResult o g h s t = result_moved n i at m o b g h s (t refl refl)
+  moved_at kind.LocalVariable o g h s t = into_body n i at m o b g h (add_local b i) refl refl (fine_local n i at b (g.body h)) (λ e x. x) (λ w. local_weight w b i)
   moved_at (kind.Type c) o g h s t = into_module n i at m o b g (add_type m i) (fine_type n i at (low_of o b.opener.place n) (low_of o b.opener.place (n + 1)) m (low_later o b.opener.place n) g.built) (λ e x. x) (λ w. type_weight w m i)
-  moved_at kind.Named o g h s t = into_body n i at m o b g (inside_open o h) (add_named b i) refl refl (fine_named n i at b (g.body (inside_open o h))) (λ e x. x) (λ w. named_weight w b i)
-  moved_at kind.EndFunction open_body.Nothing g h s t = let z : ◌≡◌ {A = ℕ} 0 1 = cc in absurd (omega arith)
-  moved_at kind.EndFunction open_body.Function g h s t = function_ends n i at m b g
-  moved_at kind.EndFunction open_body.EntryPoint g h s t = entry_ends n i at m b g
-  moved_at (kind.Expression e) open_body.Nothing g h s t = into_module n i at m open_body.Nothing b g (add_expression m i) (fine_expression n i at n (n + 1) m (low_later open_body.Nothing b.opener.place n) g.built) (λ e x. x) (λ w. expression_weight w m i)
-  moved_at (kind.Expression e) open_body.Function g h s t = into_body n i at m open_body.Function b g tt (add_inner b i) refl refl (fine_inner n i at b (g.body tt)) (λ e x. x) (λ w. inner_weight w b i)
-  moved_at (kind.Expression e) open_body.EntryPoint g h s t = into_body n i at m open_body.EntryPoint b g tt (add_inner b i) refl refl (fine_inner n i at b (g.body tt)) (λ e x. x) (λ w. inner_weight w b i)
-  moved_at (kind.Statement c) o g h s t = subst (λ p. Moved n waits.Nothing i m o b m p (add_statement b i)) (sym (statement_stays c o)) (into_body n i at m o b g (inside_open o h) (add_statement b i) refl refl (fine_statement n i at b (g.body (inside_open o h))) (λ e x. x) (λ w. statement_weight w b i))
-  moved_at kind.End o g h s t = into_body n i at m o b g (inside_open o h) (add_statement b i) refl refl (fine_statement n i at b (g.body (inside_open o h))) (λ e x. x) (λ w. statement_weight w b i)
-  moved_at kind.EndLoop o g h s t = into_body n i at m o b g (inside_open o h) (add_statement b i) refl refl (fine_statement n i at b (g.body (inside_open o h))) (λ e x. x) (λ w. statement_weight w b i)
-  moved_at kind.Case o g h s t = into_body n i at m o b g (inside_open o h) (add_statement b i) refl refl (fine_statement n i at b (g.body (inside_open o h))) (λ e x. x) (λ w. statement_weight w b i)
-  moved_at kind.EndSwitch o g h s t = into_body n i at m o b g (inside_open o h) (add_statement b i) refl refl (fine_statement n i at b (g.body (inside_open o h))) (λ e x. x) (λ w. statement_weight w b i)
+  moved_at kind.Named o g h s t = into_body n i at m o b g h (add_named b i) refl refl (fine_named n i at b (g.body h)) (λ e x. x) (λ w. named_weight w b i)
+  moved_at kind.EndFunction None g h s t = absurd cc
+  moved_at kind.EndFunction (Some body_kind.Function) g h s t = function_ends n i at m b g
+  moved_at kind.EndFunction (Some body_kind.EntryPoint) g h s t = entry_ends n i at m b g
+  moved_at (kind.Expression e) None g h s t = into_module n i at m None b g (add_expression m i) (fine_expression n i at n (n + 1) m (low_later None b.opener.place n) g.built) (λ e x. x) (λ w. expression_weight w m i)
+  moved_at (kind.Expression e) (Some k) g h s t = into_body n i at m (Some k) b g refl (add_inner b i) refl refl (fine_inner n i at b (g.body refl)) (λ e x. x) (λ w. inner_weight w b i)
+  moved_at (kind.Statement c) o g h s t = subst (λ p. Moved n None i m o b m p (add_statement b i)) (sym (statement_stays c o)) (into_body n i at m o b g h (add_statement b i) refl refl (fine_statement n i at b (g.body h)) (λ e x. x) (λ w. statement_weight w b i))
+  moved_at k o g h s t = into_body n i at m o b g h (add_statement b i) refl refl (fine_statement n i at b (g.body h)) (λ e x. x) (λ w. statement_weight w b i)

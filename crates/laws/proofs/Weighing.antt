@@ -1,19 +1,19 @@
 -- What the parts of a state weigh, and how much an item more adds.
 use Rattle.std.proofs.Common.{◌≡◌, ℕ, ◌+◌, ◌-◌, ◌≤◌, List, [], ◌∷◌, ◌++◌, length, Some, None, sum_by, Option, refl, ap, ◌∙◌, arith, length-append}
-use Rattle.std.specs.List.{flat_map}
+use Rattle.std.specs.List.{flat_map, enumerate_from}
 use Rattle.std.proofs.lemmas.List.Sums.{sum_by-cons, sum_by-append, sum_by_push}
-use Rattle.draft.specs.declared.state.Open.{Open}
-use Rattle.draft.specs.declared.state.Open.TheVariants as open_body
+use Rattle.draft.specs.declared.state.BodyKind.{BodyKind}
+use Rattle.draft.specs.declared.state.BodyKind.TheVariants as body_kind
 use Rattle.rules.specs.Module.{Record, Item, Body, Module, opened_by, add_type, add_override, add_constant, add_global, set_special, add_predeclared, add_filter, set_leaf, add_expression, add_function, add_entry, add_argument, set_result, add_local, add_named, add_inner, add_statement, closed}
 use Rattle.draft.specs.State.{State, functions_now, entries_now}
-use Rattle.laws.specs.Decoded.{Entry, numbered_from, entries_of, entries_of_any, items_entries, body_entries, bodies, standing}
+use Rattle.laws.specs.Decoded.{Entry, entries_of, entries_of_any, items_entries, body_entries, bodies, standing}
 
 -- places go on where they stopped
-pub numbered_push : (n : ℕ) (rs : List Record) (r : Record) → numbered_from n (rs ++ r ∷ []) ≡ numbered_from n rs ++ (n + length rs, r) ∷ []
+pub numbered_push : (n : ℕ) (rs : List Record) (r : Record) → enumerate_from n (rs ++ r ∷ []) ≡ enumerate_from n rs ++ (n + length rs, r) ∷ []
 numbered_push n [] r = let e : n ≡ n + 0 = omega arith in ap (λ k. (k, r) ∷ []) e
 numbered_push n (x ∷ rs) r =
     let e : n + 1 + length rs ≡ n + length (x ∷ rs) = omega arith in
-    ap (λ t. (n, x) ∷ t) (numbered_push (n + 1) rs r ∙ ap (λ k. numbered_from (n + 1) rs ++ (k, r) ∷ []) e)
+    ap (λ t. (n, x) ∷ t) (numbered_push (n + 1) rs r ∙ ap (λ k. enumerate_from (n + 1) rs ++ (k, r) ∷ []) e)
 
 module _ (w : Entry → ℕ) where
   unfoldable pub item_weight : Item → ℕ
@@ -35,10 +35,9 @@ module _ (w : Entry → ℕ) where
   bodies_weight bs = sum_by body_weight bs
 
   -- a body that is not open weighs nothing
-  abbrev pub open_weight : Open → Body → ℕ
-  open_weight open_body.Nothing b = 0
-  open_weight open_body.Function b = body_weight b
-  open_weight open_body.EntryPoint b = body_weight b
+  abbrev pub open_weight : Option BodyKind → Body → ℕ
+  open_weight None b = 0
+  open_weight (Some k) b = body_weight b
 
   unfoldable pub module_weight : Module → ℕ
   module_weight m =
@@ -92,21 +91,21 @@ module _ (w : Entry → ℕ) where
   unfolding bodies_weight
   bodies_weigh bs = sum_joined body_entries body_weight body_weighs bs
 
-  open_weighs : (o : Open) (m : Module) (b : Body) → bodies_weight (functions_now o m b) + bodies_weight (entries_now o m b) ≡ bodies_weight m.functions + bodies_weight m.entries + open_weight o b
-  open_weighs open_body.Nothing m b = omega arith
-  open_weighs open_body.Function m b = let e = bodies_push_weight m.functions b in omega arith
-  open_weighs open_body.EntryPoint m b = let e = bodies_push_weight m.entries b in omega arith
+  open_weighs : (o : Option BodyKind) (m : Module) (b : Body) → bodies_weight (functions_now o m b) + bodies_weight (entries_now o m b) ≡ bodies_weight m.functions + bodies_weight m.entries + open_weight o b
+  open_weighs None m b = omega arith
+  open_weighs (Some body_kind.Function) m b = let e = bodies_push_weight m.functions b in omega arith
+  open_weighs (Some body_kind.EntryPoint) m b = let e = bodies_push_weight m.entries b in omega arith
 
   both_weigh : (xs ys : List Body) → bodies_weight (xs ++ ys) ≡ bodies_weight xs + bodies_weight ys
   unfolding bodies_weight
   both_weigh xs ys = sum_by-append body_weight xs ys
 
   -- what stands in the module, and the body that is open
-  abbrev pub standing_weight : Module → Open → Body → ℕ
+  abbrev pub standing_weight : Module → Option BodyKind → Body → ℕ
   standing_weight m o b = module_weight m + open_weight o b
 
   unfoldable pub waiting_weight : ℕ → List Record → ℕ
-  waiting_weight n ws = sum_by w (numbered_from (n - length ws) ws)
+  waiting_weight n ws = sum_by w (enumerate_from (n - length ws) ws)
 
   pub standing_weighs : (s : State) → sum_by w (standing s) ≡ standing_weight s.built s.opened s.body + waiting_weight s.kept s.waiting
   unfolding module_weight waiting_weight
@@ -130,7 +129,7 @@ module _ (w : Entry → ℕ) where
   unfolding item_weight waiting_weight
   item_weighs n ws r h =
       let e : n - length ws + length ws ≡ n = omega arith in
-      ap (sum_by w) (numbered_push (n - length ws) ws r) ∙ sum_by_push w (numbered_from (n - length ws) ws) (n - length ws + length ws, r) ∙ ap (λ k. sum_by w (numbered_from (n - length ws) ws) + w (k, r)) e
+      ap (sum_by w) (numbered_push (n - length ws) ws r) ∙ sum_by_push w (enumerate_from (n - length ws) ws) (n - length ws + length ws, r) ∙ ap (λ k. sum_by w (enumerate_from (n - length ws) ws) + w (k, r)) e
 
   pub waiting_push : (n : ℕ) (ws : List Record) (r : Record) → length ws ≤ n → waiting_weight (n + 1) (ws ++ r ∷ []) ≡ waiting_weight n ws + w (n, r)
   unfolding waiting_weight
@@ -138,16 +137,16 @@ module _ (w : Entry → ℕ) where
       let l = length-append ws (r ∷ []) in
       let d : n + 1 - length (ws ++ r ∷ []) ≡ n - length ws = omega arith in
       let e : n - length ws + length ws ≡ n = omega arith in
-      ap (λ k. sum_by w (numbered_from k (ws ++ r ∷ []))) d ∙ ap (sum_by w) (numbered_push (n - length ws) ws r) ∙ sum_by_push w (numbered_from (n - length ws) ws) (n - length ws + length ws, r) ∙ ap (λ k. sum_by w (numbered_from (n - length ws) ws) + w (k, r)) e
+      ap (λ k. sum_by w (enumerate_from k (ws ++ r ∷ []))) d ∙ ap (sum_by w) (numbered_push (n - length ws) ws r) ∙ sum_by_push w (enumerate_from (n - length ws) ws) (n - length ws + length ws, r) ∙ ap (λ k. sum_by w (enumerate_from (n - length ws) ws) + w (k, r)) e
 
   pub none_waiting : (n : ℕ) → waiting_weight n [] ≡ 0
   unfolding waiting_weight
   none_waiting n = refl
 
-  pub all_push_weight : (m : List Record) (r : Record) → sum_by w (numbered_from 0 (m ++ r ∷ [])) ≡ sum_by w (numbered_from 0 m) + w (length m, r)
+  pub all_push_weight : (m : List Record) (r : Record) → sum_by w (enumerate_from 0 (m ++ r ∷ [])) ≡ sum_by w (enumerate_from 0 m) + w (length m, r)
   all_push_weight m r =
       let e : 0 + length m ≡ length m = omega arith in
-      ap (sum_by w) (numbered_push 0 m r) ∙ sum_by_push w (numbered_from 0 m) (0 + length m, r) ∙ ap (λ k. sum_by w (numbered_from 0 m) + w (k, r)) e
+      ap (sum_by w) (numbered_push 0 m r) ∙ sum_by_push w (enumerate_from 0 m) (0 + length m, r) ∙ ap (λ k. sum_by w (enumerate_from 0 m) + w (k, r)) e
 
 -- an item more in a module
 module _ (w : Entry → ℕ) (m : Module) where

@@ -1,6 +1,6 @@
 -- Every kept record stands in the module once, and each table is in order of arrival.
 use Rattle.std.specs.Prelude.{◌≡◌, ℕ, ◌+◌, ◌-◌, ◌<◌, ◌⊎◌, List, [], ◌∷◌, ◌++◌, map, length, Some, None, sum_by, Option}
-use Rattle.std.specs.List.{ContainsAt as Has, flat_map, AllByRecursion}
+use Rattle.std.specs.List.{ContainsAt as Has, flat_map, enumerate_from, AllByRecursion}
 use Rattle.rules.specs.Module.{Record, Item, Body, Module}
 use Rattle.draft.specs.State.{State, state, functions_now, entries_now}
 
@@ -8,13 +8,9 @@ use Rattle.draft.specs.State.{State, state, functions_now, entries_now}
 abbrev pub Entry : Type 0
 Entry = ℕ × Record
 
-abbrev pub numbered_from : ℕ → List Record → List Entry
-numbered_from n [] = []
-numbered_from n (r ∷ rs) = (n, r) ∷ numbered_from (n + 1) rs
-
 -- an item stands at its place, and what it took right before it
 abbrev pub entries_of : Item → List Entry
-entries_of i = numbered_from (i.place - length i.taken) (i.taken ++ i.bytes ∷ [])
+entries_of i = enumerate_from (i.place - length i.taken) (i.taken ++ i.bytes ∷ [])
 
 abbrev pub entries_of_any : Option Item → List Entry
 entries_of_any None = []
@@ -38,7 +34,7 @@ standing s =
     items_entries s.built.types ++ (items_entries s.built.overrides ++ (items_entries s.built.constants
     ++ (items_entries s.built.globals ++ (entries_of_any s.built.special ++ (items_entries s.built.predeclared
     ++ (items_entries s.built.filters ++ (entries_of_any s.built.leaf ++ (items_entries s.built.expressions
-    ++ (flat_map body_entries (bodies s) ++ numbered_from (s.kept - length s.waiting) s.waiting)))))))))
+    ++ (flat_map body_entries (bodies s) ++ enumerate_from (s.kept - length s.waiting) s.waiting)))))))))
 
 -- the item that counts came later
 abbrev pub Later : Option Item → ℕ → Type 0
@@ -86,6 +82,6 @@ pub record ModuleArrived (m : Module) : Type 0 where
 pub record Decoded (m : List Record) : Type 0 where
   pub gone : List Entry
   pub replaced : AllByRecursion (Replaced (state m)) gone
-  pub once : (weight : Entry → ℕ) → sum_by weight (numbered_from 0 m) ≡ sum_by weight (standing (state m)) + sum_by weight gone
+  pub once : (weight : Entry → ℕ) → sum_by weight (enumerate_from 0 m) ≡ sum_by weight (standing (state m)) + sum_by weight gone
   pub tables : ModuleArrived (state m).built
   pub in_bodies : AllByRecursion BodyArrived (bodies (state m))

@@ -1,15 +1,16 @@
 //! Reads images of shader modules, and reports their records.
 #![tactic(auto)]
 
+mod drafts;
 mod named;
 mod report;
 mod show;
 
-use crate::report::{report, report_lent};
-use arena::slot::Slot;
+use crate::drafts::FixedDraft;
+use crate::report::Reporter;
 use command::{Misuse, Options, Request, Word, parse};
+use owned::owned::OwnedDraft;
 use records::image::Records;
-use std::alloc::Global;
 use std::io::{BufWriter, Read, Write};
 use std::process::ExitCode;
 use std::{env, fs, io};
@@ -37,105 +38,89 @@ fn read_input(rt: &HostRuntime) -> io::Result<Vec<u8>> {
     Ok(image)
 }
 
-/// How many parts an image has.
-fn count_parts(image: &[u8]) -> usize {
-    let mut count = 0usize;
-    for _ in Records::new(image) {
-        count = count.saturating_add(1);
-    }
-    count
-}
-
-/// The report of an image in as much memory as the options say.
-fn report_sized<W: Write>(
-    out: &mut W,
-    heap: Global,
-    image: &[u8],
+/// The report of inputs on standard output.
+#[derive(Clone, Copy)]
+struct Inputs<'a> {
+    rt: &'a HostRuntime,
     options: Options,
-) -> io::Result<()> {
-    let room = options.bytes.unwrap_or(image.len());
-    let places = match options.slots {
-        Some(places) => places,
-        None => count_parts(image),
-    };
-    let mut bytes = vec![in heap; 0u8; room]?;
-    let mut slots = vec![in heap; Slot::EMPTY; places]?;
-    report_lent(
-        out,
-        image,
-        options,
-        bytes.as_mut_slice(),
-        slots.as_mut_slice(),
-    )
 }
 
-fn show_image(rt: &HostRuntime, name: &str, image: &[u8], options: Options) -> io::Result<()> {
-    let heap = rt.alloc();
-    let mut out = BufWriter::new(heap, rt.stdout())?;
-    if !options.plain {
-        let size = image.len();
-        writeln!(out, "image {name}: {size} bytes")?;
-    }
-    match (options.bytes, options.slots) {
-        (None, None) => report(&mut out, heap, image, options)?,
-        _ => report_sized(&mut out, heap, image, options)?,
-    }
-    out.flush()
-}
-
-/// Reports one input; whether it could be read.
-fn report_input(rt: &HostRuntime, name: &str, word: Word, options: Options) -> io::Result<bool> {
-    let read = match word {
-        Word::StandardInput => read_input(rt),
-        _ => fs::read(rt, name),
-    };
-    match read {
-        Ok(image) => {
-            show_image(rt, name, image.as_slice(), options)?;
-            Ok(true)
+impl Inputs<'_> {
+    /// Reports an image, in memory that grows unless an option fixes it.
+    fn report_image(&self, name: &str, image: &[u8]) -> io::Result<()> {
+        let heap = self.rt.alloc();
+        let options = self.options;
+        let mut out = BufWriter::new(heap, self.rt.stdout())?;
+        if !options.plain {
+            writeln!(out, "image {name}: {} bytes", image.len())?;
         }
-        Err(error) => {
-            eprintln!(rt; "modseal: {name}: {error}")?;
-            Ok(false)
-        }
-    }
-}
-
-/// Reports every input that the words behind the command name; whether all could be read.
-fn report_all(rt: &HostRuntime, words: &[String], options: Options) -> io::Result<bool> {
-    if !options.named {
-        return report_input(rt, "-", Word::StandardInput, options);
-    }
-    let mut all = true;
-    let mut is_number = false;
-    for word in words.iter().skip(1) {
-        let kind = Word::read(word.as_str());
-        match kind {
-            _ if is_number => is_number = false,
-            Word::Bytes | Word::Slots => is_number = true,
-            Word::File | Word::StandardInput => {
-                all = report_input(rt, word.as_str(), kind, options)? && all;
+        let mut reporter = Reporter {
+            out: &mut out,
+            options,
+        };
+        match (options.bytes, options.slots) {
+            (None, None) => reporter.report(image, OwnedDraft::new(heap))?,
+            (bytes, slots) => {
+                let bytes = bytes.unwrap_or(image.len());
+                let slots = slots.unwrap_or_else(|| Records::new(image).count());
+                reporter.report(image, FixedDraft::new(heap, bytes, slots)?)?;
             }
-            _ => {}
+        }
+        out.flush()
+    }
+
+    /// Reports one input; whether it could be read.
+    fn report_input(&self, name: &str, word: Word) -> io::Result<bool> {
+        let read = match word {
+            Word::StandardInput => read_input(self.rt),
+            _ => fs::read(self.rt, name),
+        };
+        match read {
+            Ok(image) => {
+                self.report_image(name, image.as_slice())?;
+                Ok(true)
+            }
+            Err(error) => {
+                eprintln!(self.rt; "modseal: {name}: {error}")?;
+                Ok(false)
+            }
         }
     }
-    Ok(all)
+
+    /// Reports every input that the words behind the command name; whether all could be read.
+    fn report_all(&self, words: &[String]) -> io::Result<bool> {
+        if !self.options.named {
+            return self.report_input("-", Word::StandardInput);
+        }
+        let mut all = true;
+        let mut words = words.iter().skip(1);
+        while let Some(name) = words.next() {
+            match Word::from(name.as_str()) {
+                Word::Bytes | Word::Slots => {
+                    let _number = words.next();
+                }
+                word @ (Word::File | Word::StandardInput) => {
+                    all = self.report_input(name.as_str(), word)? && all;
+                }
+                _ => {}
+            }
+        }
+        Ok(all)
+    }
 }
 
 /// Says what is wrong with the command line.
 fn complain(rt: &HostRuntime, words: &[String], misuse: Misuse) -> io::Result<()> {
-    match (misuse, words) {
-        (Misuse::UnknownCommand, [word, ..]) => eprintln!(rt; "modseal: {word}: no such command")?,
-        (Misuse::UnknownOption, [_, rest @ ..]) => {
-            for word in rest {
-                if let Word::Unknown = Word::read(word.as_str()) {
-                    eprintln!(rt; "modseal: {word}: no such option")?;
-                    break;
-                }
-            }
-        }
-        (Misuse::NoNumber, _) => eprintln!(rt; "modseal: --bytes and --slots take a number")?,
-        _ => eprintln!(rt; "modseal: no command")?,
+    let wrong = match misuse {
+        Misuse::UnknownCommand => words.first(),
+        Misuse::UnknownOption => words
+            .iter()
+            .find(|word| Word::from(word.as_str()) == Word::Unknown),
+        Misuse::NoCommand | Misuse::NoNumber => None,
+    };
+    match wrong {
+        Some(word) => eprintln!(rt; "modseal: {word}: {misuse}")?,
+        None => eprintln!(rt; "modseal: {misuse}")?,
     }
     eprintln!(rt; "try: modseal --help")
 }
@@ -145,7 +130,7 @@ fn run(rt: &HostRuntime) -> io::Result<bool> {
     let _ = args.next();
     let words: Vec<String> = args.collect(rt.alloc())?;
     match parse(words.as_slice()) {
-        Ok(Request::Report(options)) => report_all(rt, words.as_slice(), options),
+        Ok(Request::Report(options)) => Inputs { rt, options }.report_all(words.as_slice()),
         Ok(Request::Help) => {
             println!(rt; "{HELP}")?;
             Ok(true)

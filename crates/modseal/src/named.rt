@@ -1,15 +1,16 @@
 //! What each number names.
 ghost use Rattle.arena.specs.Viewing.{Views};
 
-use arena::slot::Slot;
 use arena::view::View;
 use draft::state::SlotTable;
-use names::kinds::kind_name;
+use ir::kinds::Kind;
 use records::image::Record;
-use std::io;
+use std::fmt::Display;
 use std::io::Write;
+use std::{fmt, io};
 
-/// What a slot's number is a number of, if it has one.
+/// What the numbers of a slot's table are numbers of, if it has numbers.
+// No Display, which has no way to say that a table has none.
 fn table_words(table: SlotTable) -> Option<&'static str> {
     match table {
         SlotTable::Unnumbered | SlotTable::Taken => None,
@@ -26,15 +27,41 @@ fn table_words(table: SlotTable) -> Option<&'static str> {
     }
 }
 
-/// One line: what the number of a slot names, and the kept record that it is.
-fn show_name<W: Write>(out: &mut W, slot: Slot, place: usize, record: &[u8]) -> io::Result<()> {
-    let number = slot.number;
-    match (table_words(slot.table), (Record { bytes: record }).parts()) {
-        (Some(table), Ok((kind, _))) => {
-            let name = kind_name(kind);
-            writeln!(out, "{table} {number} is kept record {place}, {name}")
-        }
-        _ => Ok(()),
+/// A number, and the kept record that it names.
+#[derive(Clone, Copy)]
+struct Name {
+    table: &'static str,
+    number: u32,
+    place: usize,
+    kind: Kind,
+}
+
+impl Name {
+    /// The number of the kept record at a place, if it has one.
+    fn at(view: View<'_>, place: usize) -> Option<Name>
+        requires { Views view }
+    {
+        let slot = view.slot(place)?;
+        let bytes = view.record(place)?;
+        let (kind, _) = (Record { bytes }).parts().ok()?;
+        Some(Name {
+            table: table_words(slot.table)?,
+            number: slot.number,
+            place,
+            kind,
+        })
+    }
+}
+
+impl Display for Name {
+    fn fmt<W: fmt::Write>(&self, f: &mut fmt::Formatter<W>) -> fmt::Result {
+        let Name {
+            table,
+            number,
+            place,
+            kind,
+        } = *self;
+        write!(f, "{table} {number} is kept record {place}, {kind}")
     }
 }
 
@@ -44,8 +71,8 @@ pub fn show_names<W: Write>(out: &mut W, view: View<'_>) -> io::Result<()>
     requires { Views view }
 {
     for place in 0..view.kept() {
-        if let (Some(slot), Some(record)) = (view.slot(place), view.record(place)) {
-            show_name(out, slot, place, record)?;
+        if let Some(name) = Name::at(view, place) {
+            writeln!(out, "{name}")?;
         }
     }
     Ok(())

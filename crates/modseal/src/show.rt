@@ -2,106 +2,146 @@
 use draft::counts::Counts;
 use ir::fields::{Cases, Field, Word};
 use ir::kinds::Kind;
-use names::cases::{case_name, table_name, word_names};
+use names::cases::{case_name, word_names};
 use names::kinds::field_names;
-use std::io;
-use std::io::Write;
+use std::fmt;
+use std::fmt::Display;
 
 /// What a word holds.
-fn show_word<W: Write>(out: &mut W, word: Word, number: u32) -> io::Result<()> {
-    match (word, word.handle(number)) {
-        (_, Some(handle)) => {
-            let table = table_name(handle.table());
-            let index = handle.index();
-            write!(out, "{table} {index}")
+#[derive(Clone, Copy)]
+struct Content {
+    word: Word,
+    number: u32,
+}
+
+impl Display for Content {
+    fn fmt<W: fmt::Write>(&self, f: &mut fmt::Formatter<W>) -> fmt::Result {
+        match (self.word, self.word.handle(self.number)) {
+            (_, Some(handle)) => write!(f, "{handle}"),
+            (Word::Handle(_) | Word::Optional(_), None) => write!(f, "absent"),
+            (Word::Unused, None) => write!(f, "unused"),
+            (_, None) => write!(f, "{}", self.number),
         }
-        (Word::Handle(_) | Word::Optional(_), None) => write!(out, "absent"),
-        (Word::Unused, None) => write!(out, "unused"),
-        (_, None) => write!(out, "{number}"),
     }
 }
 
-/// The words that a case uses, by name.
-fn show_words<W: Write>(
-    out: &mut W,
-    words: &[Word],
-    names: &[&str],
-    bytes: &[u8],
-) -> io::Result<()> {
-    if names.is_empty() {
-        return Ok(());
-    }
-    write!(out, "(")?;
-    let mut rest = bytes;
-    for (i, (word, name)) in words.iter().zip(names.iter()).enumerate() {
-        let [a, b, c, d, later @ ..] = rest else {
-            break;
-        };
-        if i > 0 {
-            write!(out, ", ")?;
-        }
-        write!(out, "{name}: ")?;
-        show_word(out, *word, u32::from_le_bytes([*a, *b, *c, *d]))?;
-        rest = later;
-    }
-    write!(out, ")")
+/// A case by its name, with the words that it uses.
+#[derive(Clone, Copy)]
+struct Case<'a> {
+    cases: Cases,
+    byte: u8,
+    bytes: &'a [u8],
 }
 
-fn show_case<W: Write>(out: &mut W, cases: Cases, byte: u8, bytes: &[u8]) -> io::Result<()> {
-    match (case_name(cases, byte), cases.case(byte)) {
-        (Some(name), Some(words)) => {
-            write!(out, "{name}")?;
-            show_words(out, words, word_names(cases, byte), bytes)
+impl Case<'_> {
+    /// The words by name, in brackets where there are any.
+    fn fmt_words<W: fmt::Write>(&self, words: &[Word], f: &mut fmt::Formatter<W>) -> fmt::Result {
+        let names = word_names(self.cases, self.byte);
+        if names.is_empty() {
+            return Ok(());
         }
-        _ => write!(out, "case {byte}"),
+        let (numbers, _) = self.bytes.as_chunks::<4>();
+        let named = names.iter().zip(words).zip(numbers);
+        write!(f, "(")?;
+        for (i, ((name, word), number)) in named.enumerate() {
+            let separator = if i > 0 { ", " } else { "" };
+            let content = Content {
+                word: *word,
+                number: u32::from_le_bytes(*number),
+            };
+            write!(f, "{separator}{name}: {content}")?;
+        }
+        write!(f, ")")
     }
 }
 
-fn show_field<W: Write>(out: &mut W, field: Field, name: &str, bytes: &[u8]) -> io::Result<()> {
-    write!(out, "  {name}: ")?;
-    match (field, bytes) {
-        (Field::Word(word), [a, b, c, d, ..]) => {
-            show_word(out, word, u32::from_le_bytes([*a, *b, *c, *d]))?;
+impl Display for Case<'_> {
+    fn fmt<W: fmt::Write>(&self, f: &mut fmt::Formatter<W>) -> fmt::Result {
+        match (case_name(self.cases, self.byte), self.cases.case(self.byte)) {
+            (Some(name), Some(words)) => {
+                write!(f, "{name}")?;
+                self.fmt_words(words, f)
+            }
+            _ => write!(f, "case {}", self.byte),
         }
-        (Field::Case(cases), [byte, rest @ ..]) => show_case(out, cases, *byte, rest)?,
-        _ => {}
     }
-    writeln!(out)
 }
 
-/// Each field of a body on a line of its own, by name.
-pub fn show_fields<W: Write>(out: &mut W, kind: Kind, body: &[u8]) -> io::Result<()> {
-    let mut rest = body;
-    for (field, name) in kind.layout().iter().zip(field_names(kind).iter()) {
-        let width = field.width();
-        if width > rest.len() {
-            break;
+/// What a field holds.
+#[derive(Clone, Copy)]
+struct Value<'a> {
+    field: Field,
+    bytes: &'a [u8],
+}
+
+impl Display for Value<'_> {
+    fn fmt<W: fmt::Write>(&self, f: &mut fmt::Formatter<W>) -> fmt::Result {
+        match (self.field, self.bytes) {
+            (Field::Word(word), [a, b, c, d, ..]) => {
+                let number = u32::from_le_bytes([*a, *b, *c, *d]);
+                write!(f, "{}", Content { word, number })
+            }
+            (Field::Case(cases), [byte, bytes @ ..]) => {
+                let byte = *byte;
+                write!(f, "{}", Case { cases, byte, bytes })
+            }
+            _ => Ok(()),
         }
-        show_field(out, *field, name, rest)?;
-        rest = &rest[width..];
     }
-    Ok(())
+}
+
+/// The fields of a body by name, each on a line of its own.
+#[derive(Clone, Copy)]
+pub struct Fields<'a> {
+    pub kind: Kind,
+    pub body: &'a [u8],
+}
+
+impl Display for Fields<'_> {
+    fn fmt<W: fmt::Write>(&self, f: &mut fmt::Formatter<W>) -> fmt::Result {
+        let mut rest = self.body;
+        for (field, name) in self.kind.layout().iter().zip(field_names(self.kind)) {
+            let Some((bytes, later)) = rest.split_at_checked(field.width()) else {
+                break;
+            };
+            let value = Value {
+                field: *field,
+                bytes,
+            };
+            writeln!(f, "  {name}: {value}")?;
+            rest = later;
+        }
+        Ok(())
+    }
 }
 
 /// How many items each table has, and how much memory is used.
-pub fn show_counts<W: Write>(out: &mut W, counts: Counts) -> io::Result<()> {
-    let lengths = counts.lengths;
-    let (types, constants, overrides) = (lengths.types, lengths.constants, lengths.overrides);
-    let (globals, filters) = (lengths.globals, lengths.filters);
-    let (expressions, functions, entries) = (
-        lengths.expressions,
-        lengths.functions,
-        lengths.entries,
-    );
-    let (kept, used) = (counts.kept, counts.used);
-    writeln!(
-        out,
-        "tables: types {types}, constants {constants}, overrides {overrides}"
-    )?;
-    writeln!(
-        out,
-        "tables: global variables {globals}, filters {filters}, expressions {expressions}"
-    )?;
-    writeln!(out, "tables: functions {functions}, entry points {entries}")?;
-    writeln!(out, "kept: {kept} records in {used} bytes and {kept} slots")
+#[derive(Clone, Copy)]
+pub struct Totals(pub Counts);
+
+impl Display for Totals {
+    fn fmt<W: fmt::Write>(&self, f: &mut fmt::Formatter<W>) -> fmt::Result {
+        let Counts {
+            lengths,
+            kept,
+            used,
+            ..
+        } = self.0;
+        writeln!(
+            f,
+            "tables: types {}, constants {}, overrides {}",
+            lengths.types, lengths.constants, lengths.overrides
+        )?;
+        writeln!(
+            f,
+            "tables: global variables {}, filters {}, expressions {}",
+            lengths.globals, lengths.filters, lengths.expressions
+        )?;
+        writeln!(
+            f,
+            "tables: functions {}, entry points {}",
+            lengths.functions, lengths.entries
+        )?;
+        writeln!(f, "kept: {kept} records in {used} bytes and {kept} slots")
+    }
 }

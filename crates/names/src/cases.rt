@@ -5,22 +5,6 @@ ghost use Rattle.ir.specs.Field.{cases_of};
 ghost use Rattle.names.specs.Used.{used_in};
 
 use ir::fields::Cases;
-use ir::handle::Table;
-
-/// What the handles of a table name, in words.
-pub fn table_name(table: Table) -> &'static str {
-    match table {
-        Table::Types => "type",
-        Table::Constants => "constant",
-        Table::Overrides => "override",
-        Table::GlobalVariables => "global variable",
-        Table::LocalVariables => "local variable",
-        Table::Expressions => "expression",
-        Table::Functions => "function",
-        Table::Filters => "filter",
-        Table::EntryPoints => "entry point",
-    }
-}
 
 /// The name of a case, if there is such a case.
 pub fn case_name(cases: Cases, byte: u8) -> Option<&'static str>

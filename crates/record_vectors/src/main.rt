@@ -4,13 +4,12 @@
 
 use hexadecimal::decode;
 use ir::handle::Handle;
-use names::cases::table_name;
 use records::image::Record;
 use std::io;
 use std::io::{BufRead, BufReader, BufWriter, Write};
 
 fn show_handle<W: Write>(out: &mut W, handle: Handle) -> io::Result<()> {
-    let table = table_name(handle.table());
+    let table = handle.table();
     let index = handle.index();
     write!(out, " {table}:{index}")
 }
@@ -18,16 +17,12 @@ fn show_handle<W: Write>(out: &mut W, handle: Handle) -> io::Result<()> {
 fn show_handles<W: Write>(out: &mut W, record: Record<'_>) -> io::Result<()> {
     let count = record.handle_count();
     write!(out, " {count} declared")?;
-    for place in 0..count {
-        if let Some(handle) = record.handle(place) {
-            show_handle(out, handle)?;
-        }
+    for handle in (0..count).filter_map(|place| record.handle(place)) {
+        show_handle(out, handle)?;
     }
     write!(out, " tested")?;
-    for place in 0..count {
-        if let Some(handle) = record.tested_handle(place) {
-            show_handle(out, handle)?;
-        }
+    for handle in (0..count).filter_map(|place| record.tested_handle(place)) {
+        show_handle(out, handle)?;
     }
     Ok(())
 }

@@ -1,7 +1,7 @@
 pub mod Slices
-pub mod Steps
 pub mod Judging
 pub mod Cutting
-pub mod Seeking
-pub mod Counting
+pub mod Fields
+pub mod Chained
+pub mod Few
 pub mod Swapping

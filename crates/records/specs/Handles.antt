@@ -1,5 +1,5 @@
 -- The handles of a record, in the order of its fields and in the order in which they are tested.
-use Rattle.std.specs.Prelude.{ℕ, zero, suc, Bool, true, false, List, [], ◌∷◌, ◌++◌, drop, Some, None, Ok, Err, Option, Result, slice_index}
+use Rattle.std.specs.Prelude.{ℕ, Bool, true, false, List, [], ◌∷◌, ◌++◌, drop, Some, None, Ok, Err, Option, Result, slice_index}
 use Rattle.std.specs.List.{slice_get}
 use Rattle.ir.specs.declared.handle.Handle.{Handle}
 use Rattle.ir.specs.declared.fields.Word.{Word}
@@ -9,8 +9,6 @@ use Rattle.ir.specs.declared.kinds.Kind.{Kind}
 use Rattle.ir.specs.Field.{cases_of, width_of, handle_in}
 use Rattle.ir.specs.Layout.{layout}
 use Rattle.ir.specs.Number.{second_first}
-use Rattle.records.specs.declared.handles.Sought.{Sought}
-use Rattle.records.specs.declared.handles.Sought.TheVariants.{Found, Past}
 use Rattle.records.specs.declared.judge.Flaw.{Flaw}
 use Rattle.records.specs.Record.{number, parts_of}
 
@@ -61,9 +59,3 @@ parts_tested (Err e) = []
 -- the same handles in the order in which those of an expression or a statement are tested
 abbrev pub tested_of : List ℕ → List Handle
 tested_of bytes = parts_tested (parts_of bytes)
-
--- the handle at a place, or how far past the end the place is
-abbrev pub sought : List Handle → ℕ → Sought
-sought [] place = Past place
-sought (h ∷ hs) zero = Found h
-sought (h ∷ hs) (suc place) = sought hs place

@@ -1,165 +1,115 @@
-//! The handles of a record, by place.
-ghost use Rattle.std.specs.Prelude.{◌≡◌, ℕ, ◌*◌, ◌≤◌, true, length};
+//! The handles of a record.
+ghost use Rattle.std.specs.Prelude.{◌≡◌, true, length};
 ghost use Rattle.std.specs.List.{slice_get};
 ghost use Rattle.std.specs.List.Sorted.{IsPermutation};
-ghost use Rattle.ir.specs.Field.{width_of};
-ghost use Rattle.ir.specs.Layout.{size_of};
-ghost use Rattle.records.specs.Handles.{words_handles, field_handles, fields_handles, fields_tested, handles_of, tested_of, sought};
+ghost use Rattle.std.specs.Iterator.{YieldsFirst, item_count};
+ghost use Rattle.records.specs.Handles.{handles_of, tested_of};
+ghost use Rattle.records.specs.Left.{placed_at, body_left};
+ghost use Rattle.records.specs.Gathered.{word_handles, handles_at, handles_in, tested_in, handles_left};
 
+use crate::body::{Body, Placed, Words};
 use crate::image::Record;
-use ir::fields::{Field, Word};
 use ir::handle::Handle;
 
-/// What a search for the handle at a place came to.
+/// The handles that are left in a body: those in the words of the field that is begun, and then those of
+/// the fields behind it.
 #[derive(Clone, Copy)]
-enum Sought {
-    Found(Handle),
-    /// There are too few, and this place is left in what follows.
-    Past(usize),
+pub struct Handles<'a> {
+    words: Words<'a>,
+    later: Body<'a>,
 }
 
-fn seek_words(words: &[Word], bytes: &[u8], place: usize) -> Sought
-    requires { 4 * length words.now ≤ length bytes.now }
-    ensures { result ≡ sought (words_handles words.now bytes.now) place }
+/// The first word that is a handle, and the words behind it are left.
+fn next_handle(words: &mut Words<'_>) -> Option<Handle>
+    ensures { YieldsFirst word_handles words.old result words.new }
 {
-    let [word, later @ ..] = words else {
-        return Sought::Past(place);
-    };
-    let [a, b, c, d, rest @ ..] = bytes else {
-        return Sought::Past(place);
-    };
-    match word.handle(u32::from_le_bytes([*a, *b, *c, *d])) {
-        None => seek_words(later, rest, place),
-        Some(handle) => {
-            if place == 0 {
-                return Sought::Found(handle);
+    while let Some((word, number)) = words.next() {
+        if let Some(handle) = word.handle(number) {
+            return Some(handle);
+        }
+    }
+    None
+}
+
+impl<'a> Handles<'a> {
+    /// Those of a body.
+    fn of(body: Body<'a>) -> Handles<'a>
+        ensures { handles_left result ≡ handles_in (body_left body.entry) }
+    {
+        Handles {
+            words: Words::none(),
+            later: body,
+        }
+    }
+
+    /// Those of one field.
+    fn of_field(field: Placed<'a>) -> Handles<'a>
+        ensures { handles_left result ≡ handles_at (placed_at field.entry) }
+    {
+        Handles {
+            words: field.words().unwrap_or(Words::none()),
+            later: Body::empty(),
+        }
+    }
+}
+
+impl<'a> Iterator for Handles<'a> {
+    type Item = Handle;
+
+    ghost next_gives = { YieldsFirst handles_left };
+
+    ghost remaining = { item_count handles_left };
+
+    fn next(&mut self) -> Option<Handle> {
+        loop {
+            if let Some(handle) = next_handle(&mut self.words) {
+                return Some(handle);
             }
-            seek_words(later, rest, place - 1)
+            let field = self.later.next()?;
+            self.words = field.words().unwrap_or(Words::none());
         }
     }
 }
 
-fn seek_field(field: Field, bytes: &[u8], place: usize) -> Sought
-    requires { width_of field ≤ length bytes.now }
-    ensures { result ≡ sought (field_handles field bytes.now) place }
+/// The handle at a place where the second field stands before the first, if it is there.
+fn nth_second_first(body: Body<'_>, place: usize) -> Option<Handle>
+    ensures { result ≡ slice_get (tested_in (body_left body.entry)) place }
 {
-    match (field, bytes) {
-        (Field::Word(word), [a, b, c, d, ..]) => match word.handle(u32::from_le_bytes([
-            *a, *b, *c, *d,
-        ])) {
-            Some(handle) if place == 0 => Sought::Found(handle),
-            Some(_) => Sought::Past(place - 1),
-            None => Sought::Past(place),
-        },
-        (Field::Case(cases), [byte, rest @ ..]) => match cases.case(*byte) {
-            Some(words) => seek_words(words, rest, place),
-            None => Sought::Past(place),
-        },
-        _ => Sought::Past(place),
-    }
-}
-
-fn seek_fields(fields: &[Field], bytes: &[u8], place: usize) -> Option<Handle>
-    requires { size_of fields.now ≤ length bytes.now }
-    ensures { result ≡ slice_get (fields_handles fields.now bytes.now) place }
-{
-    match fields {
-        [] => None,
-        [field, later @ ..] => match seek_field(*field, bytes, place) {
-            Sought::Found(handle) => Some(handle),
-            Sought::Past(left) => seek_fields(later, &bytes[field.width()..], left),
-        },
-    }
-}
-
-/// As `seek_fields`, with the second field before the first.
-fn seek_second_first(fields: &[Field], bytes: &[u8], place: usize) -> Option<Handle>
-    requires { size_of fields.now ≤ length bytes.now }
-    ensures { result ≡ slice_get (fields_tested true fields.now bytes.now) place }
-{
-    let [first, second, later @ ..] = fields else {
-        return seek_fields(fields, bytes, place);
+    let mut later = body;
+    let (Some(first), Some(second)) = (later.next(), later.next()) else {
+        return Handles::of(body).nth(place);
     };
-    let after_first = &bytes[first.width()..];
-    match seek_field(*second, after_first, place) {
-        Sought::Found(handle) => Some(handle),
-        Sought::Past(left) => match seek_field(*first, bytes, left) {
-            Sought::Found(handle) => Some(handle),
-            Sought::Past(left) => seek_fields(later, &after_first[second.width()..], left),
-        },
-    }
+    let second_handles = Handles::of_field(second);
+    let first_handles = Handles::of_field(first);
+    second_handles
+        .chain(first_handles)
+        .chain(Handles::of(later))
+        .nth(place)
 }
 
-fn count_words(words: &[Word], bytes: &[u8]) -> usize
-    requires { 4 * length words.now ≤ length bytes.now }
-    ensures count { result ≡ length (words_handles words.now bytes.now) }
-    ensures bound { result ≤ length words.now }
-{
-    let [word, later @ ..] = words else {
-        return 0;
-    };
-    let [a, b, c, d, rest @ ..] = bytes else {
-        return 0;
-    };
-    match word.handle(u32::from_le_bytes([*a, *b, *c, *d])) {
-        Some(_) => 1 + count_words(later, rest),
-        None => count_words(later, rest),
-    }
-}
-
-fn count_field(field: Field, bytes: &[u8]) -> usize
-    requires { width_of field ≤ length bytes.now }
-    ensures count { result ≡ length (field_handles field bytes.now) }
-    ensures bound { result ≤ 8 }
-{
-    match (field, bytes) {
-        (Field::Word(word), [a, b, c, d, ..]) => match word.handle(u32::from_le_bytes([
-            *a, *b, *c, *d,
-        ])) {
-            Some(_) => 1,
-            None => 0,
-        },
-        (Field::Case(cases), [byte, rest @ ..]) => match cases.case(*byte) {
-            Some(words) => count_words(words, rest),
-            None => 0,
-        },
-        _ => 0,
-    }
-}
-
-fn count_fields(fields: &[Field], bytes: &[u8]) -> usize
-    requires few { length fields.now ≤ 11 }
-    requires room { size_of fields.now ≤ length bytes.now }
-    ensures count { result ≡ length (fields_handles fields.now bytes.now) }
-    ensures bound { result ≤ 8 * length fields.now }
-{
-    match fields {
-        [] => 0,
-        [field, later @ ..] => {
-            count_field(*field, bytes) + count_fields(later, &bytes[field.width()..])
+impl<'a> Record<'a> {
+    /// Its handles in order of declaration, of which what is no record has none.
+    pub fn handles(self) -> Handles<'a>
+        ensures { handles_left result ≡ handles_of self.entry.bytes.now }
+    {
+        match self.body() {
+            Ok((_, body)) => Handles::of(body),
+            Err(_) => Handles::of(Body::empty()),
         }
     }
-}
 
-impl Record<'_> {
     /// How many handles it has.
     pub fn handle_count(self) -> usize
         ensures { result ≡ length (handles_of self.entry.bytes.now) }
     {
-        match self.parts() {
-            Ok((kind, body)) => count_fields(kind.layout(), body),
-            Err(_) => 0,
-        }
+        self.handles().count()
     }
 
     /// The handle at a place in order of declaration, or none past the last.
     pub fn handle(self, place: usize) -> Option<Handle>
         ensures { result ≡ slice_get (handles_of self.entry.bytes.now) place }
     {
-        match self.parts() {
-            Ok((kind, body)) => seek_fields(kind.layout(), body, place),
-            Err(_) => None,
-        }
+        self.handles().nth(place)
     }
 
     /// The handle at a place in the order in which those of an expression or a statement are tested, or
@@ -168,12 +118,9 @@ impl Record<'_> {
         ensures place { result ≡ slice_get (tested_of self.entry.bytes.now) place }
         ensures same { IsPermutation (handles_of self.entry.bytes.now) (tested_of self.entry.bytes.now) }
     {
-        match self.parts() {
-            Ok((kind, body)) if kind.second_first() => {
-                seek_second_first(kind.layout(), body, place)
-            }
-            Ok((kind, body)) => seek_fields(kind.layout(), body, place),
-            Err(_) => None,
+        match self.body() {
+            Ok((kind, body)) if kind.second_first() => nth_second_first(body, place),
+            _ => self.handle(place),
         }
     }
 }

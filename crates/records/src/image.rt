@@ -25,9 +25,9 @@ fn front_size(image: &[u8]) -> usize
     let [byte, body @ ..] = image else {
         return 0;
     };
-    match Kind::from_byte(*byte) {
-        Some(kind) => 1 + kind.size().min(body.len()),
-        None => 1 + body.len(),
+    match Kind::try_from(*byte) {
+        Ok(kind) => 1 + kind.size().min(body.len()),
+        Err(_) => 1 + body.len(),
     }
 }
 

@@ -1,12 +1,14 @@
 //! Which byte strings are records.
 ghost use Rattle.std.specs.Prelude.{◌≡◌, ℕ, ◌*◌, ◌≤◌, List, length, IfOk, Ok, Err, MatchResult, ◌==◌};
-ghost use Rattle.ir.specs.Field.{width_of};
 ghost use Rattle.ir.specs.Layout.{layout, size_of};
-ghost use Rattle.records.specs.Record.{flaw_number, words_fit, field_fits, fields_fit, parts_of, judged};
+ghost use Rattle.records.specs.declared.judge.Flaw.TheVariants.{NoSuchKind};
+ghost use Rattle.records.specs.Record.{flaw_number, parts_of, judged};
+ghost use Rattle.records.specs.Left.{body_left, fields_of};
 
+use crate::body::Body;
 use crate::image::Record;
-use ir::fields::{Field, Word};
 use ir::kinds::Kind;
+use ir::numbers::UnknownKind;
 
 /// Why a byte string is refused, whatever stands before it.
 #[derive(Clone, Copy)]
@@ -19,51 +21,20 @@ pub enum Flaw {
     BadField = 3,
 }
 
+impl From<UnknownKind> for Flaw {
+    ghost from_gives = { λ _ r. r ≡ NoSuchKind };
+
+    fn from(_unknown: UnknownKind) -> Flaw {
+        Flaw::NoSuchKind
+    }
+}
+
 impl Flaw {
     /// The number of the refusal.
     pub fn number(self) -> u8
         ensures { result ≡ flaw_number self }
     {
         self as u8
-    }
-}
-
-fn words_fit(words: &[Word], bytes: &[u8]) -> bool
-    requires { 4 * length words.now ≤ length bytes.now }
-    ensures { result ≡ words_fit words.now bytes.now }
-{
-    let [word, later @ ..] = words else {
-        return true;
-    };
-    let [a, b, c, d, rest @ ..] = bytes else {
-        return false;
-    };
-    word.fits(u32::from_le_bytes([*a, *b, *c, *d])) && words_fit(later, rest)
-}
-
-/// Whether the bytes at the front are such a field.
-fn field_fits(field: Field, bytes: &[u8]) -> bool
-    requires { width_of field ≤ length bytes.now }
-    ensures { result ≡ field_fits field bytes.now }
-{
-    match (field, bytes) {
-        (Field::Word(word), [a, b, c, d, ..]) => word.fits(u32::from_le_bytes([*a, *b, *c, *d])),
-        (Field::Case(cases), [byte, rest @ ..]) => match cases.case(*byte) {
-            Some(words) => words_fit(words, rest),
-            None => false,
-        },
-        _ => false,
-    }
-}
-
-fn fields_fit(fields: &[Field], bytes: &[u8]) -> bool
-    requires { size_of fields.now ≤ length bytes.now }
-    ensures { result ≡ fields_fit fields.now bytes.now }
-{
-    match fields {
-        [] => true,
-        [field, later @ ..] => field_fits(*field, bytes)
-            && fields_fit(later, &bytes[field.width()..]),
     }
 }
 
@@ -83,21 +54,27 @@ impl<'a> Record<'a> {
         let [byte, body @ ..] = self.bytes else {
             return Err(Flaw::NoSuchKind);
         };
-        let Some(kind) = Kind::from_byte(*byte) else {
-            return Err(Flaw::NoSuchKind);
-        };
+        let kind = Kind::try_from(*byte)?;
         if !has_length(body, kind) {
             return Err(Flaw::WrongLength);
         }
         Ok((kind, body))
     }
 
+    /// Its kind and the fields of its body, or why it is no record.
+    pub(crate) fn body(self) -> Result<(Kind, Body<'a>), Flaw>
+        ensures { MatchResult result (λ p. fields_of self.entry.bytes.now ≡ Ok (p.0, body_left p.1)) (λ e. fields_of self.entry.bytes.now ≡ Err e) }
+    {
+        let (kind, bytes) = self.parts()?;
+        Ok((kind, Body::of(kind.layout(), bytes)))
+    }
+
     /// Its kind, or why it is refused.
     pub fn judge(self) -> Result<Kind, Flaw>
         ensures { result ≡ judged self.entry.bytes.now }
     {
-        let (kind, body) = self.parts()?;
-        if fields_fit(kind.layout(), body) {
+        let (kind, body) = self.body()?;
+        if body.fits() {
             Ok(kind)
         } else {
             Err(Flaw::BadField)

@@ -1,16 +1,15 @@
 -- The first fault of one list of tests after another.
 use Rattle.std.proofs.Common.{◌≡◌, ℕ, suc, ◌+◌, Bool, true, false, cond, List, [], ◌∷◌, ◌++◌, length, Some, None, Option, sym, refl, ap, ◌∙◌, append_assoc, arith}
-use Rattle.std.specs.List.{flat_map}
+use Rattle.std.specs.Option.{option_or}
 use Rattle.rules.specs.declared.faults.Fault.{Fault}
 use Rattle.rules.specs.Fault.{Test, first, numbered_from}
-use Rattle.rules.specs.Firsts.{or_else}
 
-cond_else : (b : Bool) (f : Fault) (o p : Option Fault) → cond b (or_else o p) (Some f) ≡ or_else (cond b o (Some f)) p
+cond_else : (b : Bool) (f : Fault) (o p : Option Fault) → cond b (option_or o p) (Some f) ≡ option_or (cond b o (Some f)) p
 cond_else true f o p = refl
 cond_else false f o p = refl
 
 -- of two lists: the fault of the first, and else that of the second
-pub first_append : (a b : List Test) → first (a ++ b) ≡ or_else (first a) (first b)
+pub first_append : (a b : List Test) → first (a ++ b) ≡ option_or (first a) (first b)
 first_append [] b = refl
 first_append (t ∷ a) b = rw (first_append a b) (cond_else t.passes t.fault (first a) (first b))
 
@@ -29,7 +28,3 @@ numbered_append tests n (x ∷ xs) ys =
     let same : suc n + length xs ≡ n + suc (length xs) = omega arith in
     ap (λ l. tests n x ++ l) (numbered_append tests (suc n) xs ys ∙ ap (λ k. numbered_from tests (suc n) xs ++ numbered_from tests k ys) same)
     ∙ sym (append_assoc (tests n x) (numbered_from tests (suc n) xs) (numbered_from tests (n + suc (length xs)) ys))
-
-pub joined_append : {X Y : Type 0} (f : X → List Y) (xs ys : List X) → flat_map f (xs ++ ys) ≡ flat_map f xs ++ flat_map f ys
-joined_append f [] ys = refl
-joined_append f (x ∷ xs) ys = ap (λ l. f x ++ l) (joined_append f xs ys) ∙ sym (append_assoc (f x) (flat_map f xs) (flat_map f ys))

@@ -5,6 +5,8 @@ use Rattle.ir.specs.declared.handle.Table.TheVariants as table
 use Rattle.ir.specs.declared.handle.Handle.{Handle}
 use Rattle.ir.specs.Handle.{table_of, index_of}
 use Rattle.records.specs.Handles.{handles_of}
+use Rattle.rules.specs.declared.faults.Rule.{Rule}
+use Rattle.rules.specs.declared.faults.Rule.TheVariants as rule
 use Rattle.rules.specs.declared.faults.FaultKind.{FaultKind}
 use Rattle.rules.specs.declared.faults.FaultKind.TheVariants as kind
 use Rattle.rules.specs.declared.faults.Fault.{Fault}
@@ -13,6 +15,12 @@ use Rattle.rules.specs.declared.faults.Rejection.TheVariants.{Unfinished, Faulty
 use Rattle.rules.specs.declared.sizes.Sizes.{Sizes}
 use Rattle.rules.specs.Module.{Item}
 use Rattle.rules.specs.Sizes.{size_in}
+
+-- the number of the refusal of each rule
+abbrev pub rule_number : Rule → ℕ
+rule_number rule.Inside = 8
+rule_number rule.Earlier = 9
+rule_number rule.Range = 10
 
 -- the number of each kind of fault
 abbrev pub kind_number : FaultKind → ℕ
@@ -41,7 +49,7 @@ fault_kind table.EntryPoints = kind.Function
 -- the five numbers of a rejection: those of an unfinished draft are 7 and four zeros
 abbrev pub refusal_number : Rejection → ℕ
 refusal_number Unfinished = 7
-refusal_number (Faulty f) = f.number
+refusal_number (Faulty f) = rule_number f.rule
 
 abbrev pub refusal_kind : Rejection → ℕ
 refusal_kind Unfinished = 0
@@ -70,19 +78,19 @@ first [] = None
 first (t ∷ ts) = cond t.passes (first ts) (Some t.fault)
 
 -- inside: below the number of items of its table (refusal 8)
-abbrev pub inside : ℕ → Sizes → ℕ → Handle → Test
-inside refusal sizes place h =
+abbrev pub inside : Rule → Sizes → ℕ → Handle → Test
+inside broken sizes place h =
     record {
       passes = nat_lt (index_of h) (size_in sizes (table_of h));
-      fault = record { number = refusal; kind = fault_kind (table_of h); first = index_of h; second = 0; place = place };
+      fault = record { rule = broken; kind = fault_kind (table_of h); first = index_of h; second = 0; place = place };
     }
 
 -- earlier: strictly below the number of its holder, the subject (refusal 9)
-abbrev pub earlier : ℕ → Table → ℕ → ℕ → ℕ → Test
-earlier refusal t subject place named =
+abbrev pub earlier : Rule → Table → ℕ → ℕ → ℕ → Test
+earlier broken t subject place named =
     record {
       passes = nat_lt named subject;
-      fault = record { number = refusal; kind = fault_kind t; first = subject; second = named; place = place };
+      fault = record { rule = broken; kind = fault_kind t; first = subject; second = named; place = place };
     }
 
 -- a range of expressions is empty, or starts before its end and ends inside (refusal 10)
@@ -90,16 +98,16 @@ abbrev pub range : ℕ → ℕ → ℕ → ℕ → Test
 range count place start end =
     record {
       passes = start == end || (nat_lt start end && nat_lt (end - 1) count);
-      fault = record { number = 10; kind = kind.Expression; first = start; second = end; place = place };
+      fault = record { rule = rule.Range; kind = kind.Expression; first = start; second = end; place = place };
     }
 
 -- these handles of a record at a place are inside
-abbrev pub all_inside : ℕ → Sizes → ℕ → List Handle → List Test
-all_inside refusal sizes place hs = map (inside refusal sizes place) hs
+abbrev pub all_inside : Rule → Sizes → ℕ → List Handle → List Test
+all_inside broken sizes place hs = map (inside broken sizes place) hs
 
 -- every handle of an item's own record is inside
-abbrev pub own_inside : ℕ → Sizes → Item → List Test
-own_inside refusal sizes i = all_inside refusal sizes i.place (handles_of i.bytes)
+abbrev pub own_inside : Rule → Sizes → Item → List Test
+own_inside broken sizes i = all_inside broken sizes i.place (handles_of i.bytes)
 
 -- the tests of each item of a list, told its number, counted from n
 abbrev pub numbered_from : {X : Type 0} → (ℕ → X → List Test) → ℕ → List X → List Test

@@ -1,5 +1,5 @@
 -- The handles of an item, and what they name.
-use Rattle.std.specs.Prelude.{ℕ, zero, suc, Bool, cond, List, [], ◌∷◌, ◌++◌, take, Some, None, Option, ◌==◌}
+use Rattle.std.specs.Prelude.{ℕ, zero, suc, Bool, cond, List, [], ◌∷◌, ◌++◌, take, ◌==◌}
 use Rattle.std.specs.List.{flat_map}
 use Rattle.ir.specs.declared.handle.Table.{Table}
 use Rattle.ir.specs.declared.handle.Table.TheVariants as table
@@ -58,7 +58,3 @@ abbrev pub at : {X : Type 0} → List X → ℕ → List X
 at [] n = []
 at (x ∷ xs) zero = x ∷ []
 at (x ∷ xs) (suc n) = at xs n
-
-abbrev pub listed : {X : Type 0} → Option X → List X
-listed None = []
-listed (Some x) = x ∷ []

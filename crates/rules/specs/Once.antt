@@ -3,6 +3,7 @@ use Rattle.std.specs.Prelude.{◌≡◌, ℕ, suc, max, List, [], ◌∷◌, ◌
 use Rattle.std.specs.List.{flat_map}
 use Rattle.ir.specs.declared.handle.Table.TheVariants as table
 use Rattle.ir.specs.Handle.{named}
+use Rattle.rules.specs.declared.faults.Rule.TheVariants as rule
 use Rattle.rules.specs.Module.{Item, Module}
 use Rattle.rules.specs.Sizes.{sizes}
 use Rattle.rules.specs.Items.{type_of, init_of, pending_of, at}
@@ -24,14 +25,14 @@ unmet m met e = drop met (take (suc e) m.expressions)
 
 abbrev pub init_once : Module → ℕ → ℕ → ℕ → ℕ → List Test
 init_once m met t place e =
-    inside 8 (sizes m) place (named table.Expressions e) ∷ numbered_from (sized_tests m t place) met (unmet m met e)
+    inside rule.Inside (sizes m) place (named table.Expressions e) ∷ numbered_from (sized_tests m t place) met (unmet m met e)
 
 abbrev pub size_once : Module → ℕ → ℕ → ℕ → Item → List Test
-size_once m met t place v = map (earlier 9 table.Types t place) (type_of v) ++ flat_map (init_once m met t place) (init_of v)
+size_once m met t place v = map (earlier rule.Earlier table.Types t place) (type_of v) ++ flat_map (init_once m met t place) (init_of v)
 
 abbrev pub pending_once : Module → ℕ → ℕ → ℕ → ℕ → List Test
 pending_once m met t place o =
-    inside 8 (sizes m) place (named table.Overrides o) ∷ flat_map (size_once m met t place) (at m.overrides o)
+    inside rule.Inside (sizes m) place (named table.Overrides o) ∷ flat_map (size_once m met t place) (at m.overrides o)
 
 abbrev pub type_once : Module → ℕ → ℕ → Item → List Test
 type_once m met t i = base_tests t i ++ flat_map (pending_once m met t i.place) (pending_of i)

@@ -1,7 +1,29 @@
 //! What a failed test is reported as.
+ghost use Rattle.std.specs.Prelude.{◌≡◌};
+ghost use Rattle.rules.specs.Fault.{rule_number};
+
+/// The rules that are tested, under the numbers of their refusals.
+#[derive(Clone, Copy, PartialEq, Eq, Debug)]
+pub enum Rule {
+    /// A handle names an item of its table.
+    Inside = 8,
+    /// The item that a handle names comes before the one that holds it.
+    Earlier = 9,
+    /// A range of expressions is empty, or starts before its end and ends inside.
+    Range = 10,
+}
+
+impl Rule {
+    /// The number of the refusal.
+    pub fn number(self) -> u8
+        ensures { result ≡ rule_number self }
+    {
+        self as u8
+    }
+}
 
 /// What the numbers in a fault count.
-#[derive(Clone, Copy)]
+#[derive(Clone, Copy, PartialEq, Eq, Debug)]
 pub enum FaultKind {
     Type,
     Constant,
@@ -14,11 +36,11 @@ pub enum FaultKind {
     DiagnosticFilterNode,
 }
 
-/// A failed test: the number of the refusal, what its numbers count, the two numbers, and the place
-/// among the kept records of the record under test.
-#[derive(Clone, Copy)]
+/// A failed test: the rule, what its numbers count, the two numbers, and the place among the kept
+/// records of the record under test.
+#[derive(Clone, Copy, PartialEq, Eq, Debug)]
 pub struct Fault {
-    pub number: u8,
+    pub rule: Rule,
     pub kind: FaultKind,
     pub first: u32,
     pub second: u32,
@@ -26,7 +48,7 @@ pub struct Fault {
 }
 
 /// Why a draft is refused.
-#[derive(Clone, Copy)]
+#[derive(Clone, Copy, PartialEq, Eq, Debug)]
 pub enum Rejection {
     /// A function is open or records wait.
     Unfinished,

@@ -5,7 +5,7 @@ ghost use Rattle.rules.specs.Sizes.{size_in};
 use ir::handle::Table;
 
 /// How many items each table has.
-#[derive(Clone, Copy)]
+#[derive(Clone, Copy, PartialEq, Eq, Debug)]
 pub struct Sizes {
     pub types: u32,
     pub constants: u32,

@@ -5,7 +5,7 @@ use Rattle.ir.proofs.kinds.Kind.number.Goals as goal
 
 pub returns : goal.returns
 returns c = record {
-  value = c.own_number.ensures;
-  found = ap kind_of c.own_number.ensures ∙ number_kind c.args.self;
-  only = λ n small e. only_number c.args.self n small e ∙ sym c.own_number.ensures;
+  value = c.from.ensures;
+  found = ap kind_of c.from.ensures ∙ number_kind c.args.self;
+  only = λ n small e. only_number c.args.self n small e ∙ sym c.from.ensures;
 }

@@ -5,12 +5,12 @@ use Rattle.records.proofs.image.Record.parts.Goals as goal
 
 pub returns : goal.returns
 returns c = record {
-  parts = parts_whole c.args.self.bytes.now _ (search rules) c.in-Some.ensures c.if-not-has_length.ensures;
+  parts = parts_whole c.args.self.bytes.now _ (search rules) (sym c.in_ok-kind.ensures) c.if-not-has_length.ensures;
   long = eqb-true _ _ (sym c.if-not-has_length.ensures);
 }
 
 pub returns-then-not-has_length : goal.returns-then-not-has_length
 returns-then-not-has_length c = record {
-  parts = parts_short c.args.self.bytes.now _ (search rules) c.in-Some.ensures c.if-not-has_length.ensures;
+  parts = parts_short c.args.self.bytes.now _ (search rules) (sym c.in_ok-kind.ensures) c.if-not-has_length.ensures;
   long = tt;
 }

@@ -1,0 +1,113 @@
+//! Drafts that records are put into.
+ghost use Rattle.std.specs.Prelude.{◌≡◌, ℕ, List, [], IfOk, vec_len};
+ghost use Rattle.std.proofs.Props.{props};
+ghost use Rattle.draft.specs.State.{state};
+ghost use Rattle.draft.specs.Counting.{counts_of};
+ghost use Rattle.arena.specs.Memory.{Stands, records};
+ghost use Rattle.arena.specs.Put.{put_def};
+ghost use Rattle.arena.specs.Viewing.{Views, viewed};
+ghost use Rattle.owned.specs.Kept.{kept_in};
+ghost use Rattle.owned.specs.Putting.{put_all};
+ghost use Rattle.modseal.specs.Putting.{Put, PutOrFails};
+ghost use Rattle.modseal.specs.Standing.{Accepted-prop};
+
+use arena::Draft;
+use arena::answer::Answer;
+use arena::slot::Slot;
+use arena::view::View;
+use draft::counts::Counts;
+use draft::refusal::Refusal;
+use owned::denial::Denial;
+use owned::owned::OwnedDraft;
+use std::alloc::{AllocError, Global};
+
+/// What a draft answers to a record: the item that it is, or why it is refused.
+pub type Outcome = Result<Answer, Refusal>;
+
+/// A draft with its memory.
+pub trait AnyDraft {
+    /// The records that it has kept.
+    ghost kept: { Self → List (List ℕ) };
+
+    /// What it answers to a record where there is memory, and what it has kept then.
+    ghost put_gives: { Self → List ℕ → Put };
+
+    /// Puts a record; fails where there is no memory to be had for it.
+    fn put(&mut self, record: &[u8]) -> Result<Outcome, AllocError>
+        ensures { PutOrFails (put_gives self.old «record».now) result (kept self.old) (kept self.new) };
+
+    /// What is counted of its records.
+    fn counts(&self) -> Counts
+        ensures { result ≡ counts_of (state (kept self.now)) };
+
+    /// Its kept records.
+    fn view(&self) -> View<'_>
+        ensures stands { Views result }
+        ensures keeps { viewed result ≡ kept self.now };
+}
+
+/// A draft in memory that does not grow.
+#[derive(Drop)]
+pub struct FixedDraft {
+    draft: Draft,
+    bytes: Vec<u8>,
+    slots: Vec<Slot>,
+    ghost stands: { Stands draft bytes.items slots.items } by { Prim.hlevel (props, Accepted-prop) },
+}
+
+impl FixedDraft {
+    /// A draft that has kept nothing, in so many bytes and slots.
+    pub fn new(heap: Global, bytes: usize, slots: usize) -> Result<FixedDraft, AllocError>
+        ensures empty { IfOk result (λ d. records d.draft d.bytes.items d.slots.items ≡ []) }
+        ensures sizes { IfOk result (λ d. (vec_len d.bytes ≡ bytes) × (vec_len d.slots ≡ slots)) }
+    {
+        Ok(FixedDraft {
+            draft: Draft::new(),
+            bytes: vec![in heap; 0; bytes]?,
+            slots: vec![in heap; Slot::EMPTY; slots]?,
+        })
+    }
+}
+
+impl AnyDraft for FixedDraft {
+    ghost kept = { λ d. records d.draft d.bytes.items d.slots.items };
+
+    ghost put_gives = { λ d r. put_def (vec_len d.bytes) (vec_len d.slots) (records d.draft d.bytes.items d.slots.items) r };
+
+    fn put(&mut self, record: &[u8]) -> Result<Outcome, AllocError> {
+        Ok(self.draft.put(self.bytes.as_mut_slice(), self.slots.as_mut_slice(), record))
+    }
+
+    fn counts(&self) -> Counts {
+        self.draft.counts()
+    }
+
+    fn view(&self) -> View<'_> {
+        self.draft
+            .view(self.bytes.as_slice(), self.slots.as_slice())
+    }
+}
+
+impl AnyDraft for OwnedDraft {
+    ghost kept = { kept_in };
+
+    ghost put_gives = { λ d r. put_all (kept_in d) r };
+
+    fn put(&mut self, record: &[u8]) -> Result<Outcome, AllocError> {
+        match OwnedDraft::put(self, record) {
+            Ok(answer) => Ok(Ok(answer)),
+            Err(Denial::Refused(refusal)) => Ok(Err(refusal)),
+            Err(Denial::NoMemory) => Err(AllocError),
+        }
+    }
+
+    fn counts(&self) -> Counts {
+        let (draft, _, _) = self.parts();
+        draft.counts()
+    }
+
+    fn view(&self) -> View<'_> {
+        let (draft, bytes, slots) = self.parts();
+        draft.view(bytes, slots)
+    }
+}

@@ -1,0 +1,100 @@
+-- What is said of fields and words one by one is what is said of whole bodies.
+use Rattle.std.proofs.Common.{◌≡◌, ℕ, Bool, true, cond, ◌&&◌, List, [], ◌∷◌, ◌++◌, drop, Some, None, Ok, Err, Option, Result, refl, sym, ap, ◌∙◌}
+use Rattle.std.specs.Prelude.{slice_index}
+use Rattle.std.specs.List.{slice_get, list_all, filter_map, cons_option}
+use Rattle.std.proofs.lemmas.Option.{none-some}
+use Rattle.std.proofs.Math.Bool.{and-true}
+use Rattle.ir.specs.declared.handle.Handle.{Handle}
+use Rattle.ir.specs.declared.fields.Word.{Word}
+use Rattle.ir.specs.declared.fields.Field.{Field}
+use Rattle.ir.specs.declared.fields.Field.TheVariants.{Word as one, Case}
+use Rattle.ir.specs.declared.kinds.Kind.{Kind}
+use Rattle.ir.specs.Field.{cases_of, width_of, fits, handle_in}
+use Rattle.ir.specs.Layout.{layout}
+use Rattle.records.specs.declared.judge.Flaw.{Flaw}
+use Rattle.records.specs.declared.judge.Flaw.TheVariants.{BadField}
+use Rattle.records.specs.Record.{number, words_fit, case_fits, field_fits, fields_fit, judged_parts, parts_of, judged}
+use Rattle.records.specs.Handles.{joining, words_handles, field_handles, fields_handles, fields_tested, parts_handles, handles_of}
+use Rattle.records.specs.Left.{words_in, row_words, field_words, placed, all_fit, placed_parts, fields_of}
+use Rattle.records.specs.Gathered.{word_handle, handles_in, tested_in}
+
+some_is : {A : Type 0} (x y : A) → Some x ≡ Some y → x ≡ y
+some_is x y e = cc
+
+-- a word may hold its number
+abbrev pub word_fits : Word × ℕ → Bool
+word_fits p = fits p.0 p.1
+
+words_all : (ws : List Word) (bytes : List ℕ) → list_all word_fits (words_in ws bytes) ≡ words_fit ws bytes
+words_all [] bytes = refl
+words_all (w ∷ ws) bytes = ap (λ b. fits w (number bytes) && b) (words_all ws (drop 4 bytes))
+
+joins : (o : Option Handle) (hs : List Handle) → cons_option o hs ≡ joining o hs
+joins None hs = refl
+joins (Some h) hs = refl
+
+pub words_gathered : (ws : List Word) (bytes : List ℕ) → filter_map word_handle (words_in ws bytes) ≡ words_handles ws bytes
+words_gathered [] bytes = refl
+words_gathered (w ∷ ws) bytes =
+    joins (handle_in w (number bytes)) (filter_map word_handle (words_in ws (drop 4 bytes))) ∙
+    ap (joining (handle_in w (number bytes))) (words_gathered ws (drop 4 bytes))
+
+row_all : (o : Option (List Word)) (bytes : List ℕ) (ws : List (Word × ℕ)) → row_words o bytes ≡ Some ws → list_all word_fits ws ≡ case_fits o bytes
+row_all None bytes ws e = absurd (none-some ws e)
+row_all (Some row) bytes ws e =
+    ap (list_all word_fits) (sym (some_is (words_in row bytes) ws e)) ∙ words_all row bytes
+
+pub field_all : (f : Field) (bytes : List ℕ) (ws : List (Word × ℕ)) → field_words f bytes ≡ Some ws → list_all word_fits ws ≡ field_fits f bytes
+field_all (one w) bytes ws e =
+    ap (list_all word_fits) (sym (some_is (words_in (w ∷ []) bytes) ws e)) ∙ and-true (fits w (number bytes))
+field_all (Case c) bytes ws e = row_all (slice_get (cases_of c) (slice_index bytes 0)) (drop 1 bytes) ws e
+
+-- field after field
+
+pub fields_all : (fs : List Field) (bytes : List ℕ) → all_fit (placed fs bytes) ≡ fields_fit fs bytes
+fields_all [] bytes = refl
+fields_all (f ∷ fs) bytes = ap (λ b. field_fits f bytes && b) (fields_all fs (drop (width_of f) bytes))
+
+pub fields_gathered : (fs : List Field) (bytes : List ℕ) → handles_in (placed fs bytes) ≡ fields_handles fs bytes
+fields_gathered [] bytes = refl
+fields_gathered (f ∷ fs) bytes =
+    ap (λ hs. field_handles f bytes ++ hs) (fields_gathered fs (drop (width_of f) bytes))
+
+pub fields_swapped : (fs : List Field) (bytes : List ℕ) → tested_in (placed fs bytes) ≡ fields_tested true fs bytes
+fields_swapped [] bytes = refl
+fields_swapped (f ∷ []) bytes = refl
+fields_swapped (f ∷ g ∷ fs) bytes =
+    ap (λ hs. field_handles g (drop (width_of f) bytes) ++ (field_handles f bytes ++ hs))
+    (fields_gathered fs (drop (width_of g) (drop (width_of f) bytes)))
+
+-- a record
+
+ok_is : {A E : Type 0} (x y : A) → ◌≡◌ {A = Result A E} (Ok x) (Ok y) → x ≡ y
+ok_is x y e = cc
+
+module _ {k : Kind} {ps : List (Field × List ℕ)} where
+  -- the body that a kind and its fields come from
+  pub parts_are : (r : Result (Kind × List ℕ) Flaw) → placed_parts r ≡ Ok (k, ps) → (body : List ℕ) × (r ≡ Ok (k, body)) × (ps ≡ placed (layout k) body)
+  parts_are (Ok p) e =
+      let same : (p.0, placed (layout p.0) p.1) ≡ (k, ps) = ok_is {E = Flaw} _ _ e in
+      let kind = ap (λ (q : Kind × List (Field × List ℕ)). q.0) same in
+      let fields = ap (λ (q : Kind × List (Field × List ℕ)). q.1) same in
+      (p.1, ap (λ (x : Kind). Ok (x, p.1)) kind, sym fields ∙ ap (λ (x : Kind). placed (layout x) p.1) kind)
+  parts_are (Err f) e = absurd cc
+
+  pub judged_is : (bytes : List ℕ) → fields_of bytes ≡ Ok (k, ps) → judged bytes ≡ cond (all_fit ps) (Ok k) (Err BadField)
+  judged_is bytes e =
+      let p = parts_are (parts_of bytes) e in
+      ap judged_parts p.1 ∙ ap (λ b. cond b (Ok k) (Err BadField)) (sym (ap all_fit p.2 ∙ fields_all (layout k) p.0))
+
+  pub handles_are : (bytes : List ℕ) → fields_of bytes ≡ Ok (k, ps) → handles_in ps ≡ handles_of bytes
+  handles_are bytes e =
+      let p = parts_are (parts_of bytes) e in
+      ap handles_in p.2 ∙ fields_gathered (layout k) p.0 ∙ sym (ap parts_handles p.1)
+
+no_handles : (r : Result (Kind × List ℕ) Flaw) (e : Flaw) → placed_parts r ≡ Err e → [] ≡ parts_handles r
+no_handles (Ok p) e same = absurd cc
+no_handles (Err f) e same = refl
+
+pub handles_none : (bytes : List ℕ) (e : Flaw) → fields_of bytes ≡ Err e → [] ≡ handles_of bytes
+handles_none bytes e same = no_handles (parts_of bytes) e same
