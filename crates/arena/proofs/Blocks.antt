@@ -24,17 +24,17 @@ kind_size None = 0
 kind_size (Some k) = size_of (layout k)
 
 size_judged : (o : Option Kind) (body : List ℕ) → is_ok (judged_parts (body_of o body)) ≡ true → length body ≡ kind_size o
-size_judged None body e = let z : ◌≡◌ {A = ℕ} 0 1 = cc in absurd (omega arith)
+size_judged None body e = absurd cc
 size_judged (Some k) body e =
     elim (eqb (length body) (size_of (layout k))) as (λ b. eqb (length body) (size_of (layout k)) ≡ b → is_ok (judged_parts (cond b (Ok (k, body)) (Err WrongLength))) ≡ true → length body ≡ size_of (layout k)) [
       | true ↦ λ q h. eqb-true (length body) (size_of (layout k)) q
-      | false ↦ λ q h. let z : ◌≡◌ {A = ℕ} 0 1 = cc in absurd (omega arith)
+      | false ↦ λ q h. absurd cc
     ] refl e
 
 -- the first byte of a record says how long it is
 same_front : (x y : Record) (xs ys : List ℕ) → Sound x → Sound y → x ++ xs ≡ y ++ ys → length x ≡ length y
-same_front [] y xs ys e f h = let z : ◌≡◌ {A = ℕ} 0 1 = cc in absurd (omega arith)
-same_front (k ∷ x) [] xs ys e f h = let z : ◌≡◌ {A = ℕ} 0 1 = cc in absurd (omega arith)
+same_front [] y xs ys e f h = absurd cc
+same_front (k ∷ x) [] xs ys e f h = absurd cc
 same_front (k ∷ x) (l ∷ y) xs ys e f h =
     let same : k ≡ l = cc in
     let a : length x ≡ kind_size (kind_of k) = size_judged (kind_of k) x e in
@@ -43,7 +43,7 @@ same_front (k ∷ x) (l ∷ y) xs ys e f h =
     ap suc c
 
 sound_some : (x : Record) → Sound x → 0 < length x
-sound_some [] e = let z : ◌≡◌ {A = ℕ} 0 1 = cc in absurd (omega arith)
+sound_some [] e = absurd cc
 sound_some (k ∷ x) e = omega arith
 
 -- a list of read-off is known by its bytes
@@ -72,8 +72,8 @@ all_back (x ∷ m) n a = all_back m n a.1
 
 same_records_true : (xs ys : List Record) → same_records xs ys ≡ true → xs ≡ ys
 same_records_true [] [] e = refl
-same_records_true [] (y ∷ ys) e = let z : ◌≡◌ {A = ℕ} 0 1 = cc in absurd (omega arith)
-same_records_true (x ∷ xs) [] e = let z : ◌≡◌ {A = ℕ} 0 1 = cc in absurd (omega arith)
+same_records_true [] (y ∷ ys) e = absurd cc
+same_records_true (x ∷ xs) [] e = absurd cc
 same_records_true (x ∷ xs) (y ∷ ys) e =
     let p = and_parts (bytes_eq x y) (same_records xs ys) e in
     let a : x ≡ y = (bytes_eq-Decides x y).0 p.0 in
@@ -104,11 +104,8 @@ blocks_decide i j a b = (
 )
 
 -- a block is two parts, one after the other
-pub too_short : (block front rest : List ℕ) → length block < length front → Decides false (block ≡ front ++ rest)
-too_short block front rest h = (λ e. let z : ◌≡◌ {A = ℕ} 0 1 = cc in absurd (omega arith), λ e. let l = ap length e ∙ length-append front rest in absurd (omega arith))
-
 pub front_differs : (block front rest first : List ℕ) → first ≡ take (length front) block → (first ≡ front → ⊥) → Decides false (block ≡ front ++ rest)
-front_differs block front rest first is apart = (λ e. let z : ◌≡◌ {A = ℕ} 0 1 = cc in absurd (omega arith), λ e. absurd (apart (is ∙ ap (take (length front)) e ∙ take_at front rest (length front) refl)))
+front_differs block front rest first is apart = (λ e. absurd cc, λ e. absurd (apart (is ∙ ap (take (length front)) e ∙ take_at front rest (length front) refl)))
 
 pub rest_decides : (block front rest first second : List ℕ) (b : Bool) → first ≡ take (length front) block → second ≡ drop (length front) block → first ≡ front → Decides b (second ≡ rest) → Decides b (block ≡ front ++ rest)
 rest_decides block front rest first second b is is' same d = (

@@ -19,69 +19,27 @@ use Rattle.draft.specs.Manner.{manner_of}
 use Rattle.rules.specs.Module.{Record, Item, Body, Module}
 use Rattle.draft.specs.State.{State, start, step, state, item_of, module_after, waiting_after, table_in, number_of_next}
 use Rattle.arena.specs.Put.{equal_items, known_from, known}
-use Rattle.arena.specs.Memory.{table_judged, slot_of, Holds}
+use Rattle.arena.specs.Memory.{table_judged, slot_of, layout, Holds}
 use Rattle.draft.proofs.Stepping.{admitted_kind, step_is, accepted_front, image_append, image_more, image_push}
 use Rattle.draft.proofs.Fronts.{Fronted, fronted_so}
-use Rattle.arena.proofs.Placing.{around, kept_is, block_is}
+use Rattle.arena.proofs.Placing.{around, length_layout, slot_there, block_is}
+use Rattle.arena.specs.Viewing.{same_table}
+use Rattle.arena.proofs.Tables.{not_same}
 use Rattle.arena.proofs.Blocks.{Sound, all_sound, all_front, all_back, block_of, blocks_decide}
 
 -- the type that a record of this table makes
 abbrev pub own : SlotTable → Item → List Item
-own table.Unnumbered i = []
-own table.Taken i = []
-own table.Types i = i ∷ []
-own table.Overrides i = []
-own table.Constants i = []
-own table.GlobalVariables i = []
-own table.Filters i = []
-own table.Expressions i = []
-own table.Functions i = []
-own table.EntryPoints i = []
-own table.LocalVariables i = []
-own table.LocalExpressions i = []
+own t i = cond (same_table table.Types t) (i ∷ []) []
 
 -- what waits after a record of this table
 abbrev pub gathered : SlotTable → List Record → Record → List Record
-gathered table.Unnumbered ws r = []
-gathered table.Taken ws r = ws ++ r ∷ []
-gathered table.Types ws r = []
-gathered table.Overrides ws r = []
-gathered table.Constants ws r = []
-gathered table.GlobalVariables ws r = []
-gathered table.Filters ws r = []
-gathered table.Expressions ws r = []
-gathered table.Functions ws r = []
-gathered table.EntryPoints ws r = []
-gathered table.LocalVariables ws r = []
-gathered table.LocalExpressions ws r = []
+gathered t ws r = cond (same_table table.Taken t) (ws ++ r ∷ []) []
 
 own_none : (t : SlotTable) (i : Item) → (t ≡ table.Types → ⊥) → own t i ≡ []
-own_none table.Unnumbered i n = refl
-own_none table.Taken i n = refl
-own_none table.Types i n = absurd (n refl)
-own_none table.Overrides i n = refl
-own_none table.Constants i n = refl
-own_none table.GlobalVariables i n = refl
-own_none table.Filters i n = refl
-own_none table.Expressions i n = refl
-own_none table.Functions i n = refl
-own_none table.EntryPoints i n = refl
-own_none table.LocalVariables i n = refl
-own_none table.LocalExpressions i n = refl
+own_none t i n = cond-false _ _ _ (not_same table.Types t n)
 
 gathered_none : (t : SlotTable) (ws : List Record) (r : Record) → (t ≡ table.Taken → ⊥) → gathered t ws r ≡ []
-gathered_none table.Unnumbered ws r n = refl
-gathered_none table.Taken ws r n = absurd (n refl)
-gathered_none table.Types ws r n = refl
-gathered_none table.Overrides ws r n = refl
-gathered_none table.Constants ws r n = refl
-gathered_none table.GlobalVariables ws r n = refl
-gathered_none table.Filters ws r n = refl
-gathered_none table.Expressions ws r n = refl
-gathered_none table.Functions ws r n = refl
-gathered_none table.EntryPoints ws r n = refl
-gathered_none table.LocalVariables ws r n = refl
-gathered_none table.LocalExpressions ws r n = refl
+gathered_none t ws r n = cond-false _ _ _ (not_same table.Taken t n)
 
 types_at : (k : Kind) (o : Option BodyKind) (b : Body) (i : Item) (m : Module) → (module_after k o b i m).types ≡ m.types ++ own (table_in o (manner_of k).table) i
 types_at kind.Member o b i m = sym (append-nil m.types)
@@ -158,10 +116,6 @@ new_types s (r ∷ m) = own (table_judged s (judged r)) (item_of s r) ++ new_typ
 types_from : (s : State) (m : List Record) → Accepted s m → (fold step s m).built.types ≡ s.built.types ++ new_types s m
 types_from s [] a = sym (append-nil s.built.types)
 types_from s (r ∷ m) a = types_from (step s r) m a.1 ∙ ap (λ l. l ++ new_types (step s r) m) (types_step s r a.0) ∙ append_assoc s.built.types (own (table_judged s (judged r)) (item_of s r)) (new_types (step s r) m)
-
-pub types_are : (m : List Record) → Accepted start m → (state m).built.types ≡ new_types start m
-unfolding state
-types_are m a = types_from start m a
 
 pub state_more : (m : List Record) (p : ℕ) → p < length m → state (take (p + 1) m) ≡ step (state (take p m)) (get_or m p [])
 unfolding state
@@ -287,51 +241,57 @@ decides_same true false P x y = sym (y.1 (x.0 refl))
 decides_same false true P x y = x.1 (y.0 refl)
 decides_same false false P x y = refl
 
-module _ {d : Counts} {bytes : List ℕ} {slots : List Slot} {m : List Record} (holds : Holds d bytes slots m) (p : ℕ) (l : p < d.kept) where
-  pub inside : p < length m
-  inside = subst (λ n. p < n) (kept_is holds) l
+-- the search so far: what is known from a place on, and where the item there begins
+abbrev pub Searched : List Record → Record → ℕ → ℕ → Type 0
+Searched m r p from = (known_at m p (item_of (state m) r) ≡ known (state m) r) × TakingAt m p from
 
-  pub from_end : (from end : ℕ) → TakingAt m p from → end ≡ length (image (take (p + 1) m)) → from ≤ end
-  from_end from end t is = let n = image_next m p inside holds.accepted in omega arith
+module _ {d : Counts} {bytes : List ℕ} {slots : List Slot} {m : List Record} (holds : Holds d bytes slots m) {ss : List Slot} (ss_are : ss ≡ layout m) (p : ℕ) (l : p < length ss)
+    (r : Record) (from : ℕ) (so_far : Searched m r p from) (end : ℕ) (end_is : end ≡ length (image (take (p + 1) m))) where
+  inside : p < length m
+  inside = subst (λ n. p < n) (ap length ss_are ∙ length_layout start m) l
+
+  pub from_end : from ≤ end
+  from_end = let n = image_next m p inside holds.accepted in let t = so_far.1 in omega arith
 
   -- what the code compares is whether the items are equal
-  pub same_block : (r : Record) → Sound r → (from end : ℕ) → TakingAt m p from → end ≡ length (image (take (p + 1) m)) → (w : List ℕ) → w ≡ image (state m).waiting → (b : Bool) → Decides b (between from end bytes ≡ w ++ r) → equal_items (item_at m p) (item_of (state m) r) ≡ b
-  same_block r sound from end t is w w_is b decides =
+  pub same_block : Sound r → (w : List ℕ) → w ≡ image (state m).waiting → (b : Bool) → Decides b (between from end bytes ≡ w ++ r) → equal_items (item_at m p) (item_of (state m) r) ≡ b
+  same_block sound w w_is b decides =
       let f = fronted_so m holds.accepted in
       let waiting_sound : AllByRecursion Sound (state m).waiting = all_back f.front (state m).waiting (subst (AllByRecursion Sound) (sym f.parts) (all_sound start m holds.accepted)) in
       let other : w ++ r ≡ block_of (item_of (state m) r) = ap (λ x. x ++ r) w_is ∙ sym (image_push (state m).waiting r) in
-      let here : between from end bytes ≡ block_of (item_at m p) = item_block m p inside holds.accepted holds from end t is in
+      let here : between from end bytes ≡ block_of (item_at m p) = item_block m p inside holds.accepted holds from end so_far.1 end_is in
       let e = blocks_decide (item_at m p) (item_of (state m) r) (item_sound m p inside holds.accepted) (All-push Sound (state m).waiting r waiting_sound sound) in
       decides_same _ b (block_of (item_at m p) ≡ block_of (item_of (state m) r)) e ((λ x. sym here ∙ decides.0 x ∙ other), (λ x. decides.1 (here ∙ x ∙ sym other)))
 
-  module _ (slot : Slot) (slot_is : slot ≡ slot_of (state (take p m)) (get_or m p [])) where
+  -- the slot that the code reads at the place
+  module _ (e : Slot) where
+    abbrev slot : Slot
+    slot = get_or ss p e
+
+    slot_is : slot ≡ slot_of (state (take p m)) (get_or m p [])
+    slot_is = slot_there holds ss_are p e l
+
     table_here : (t : SlotTable) → slot.table ≡ t → table_at m p ≡ t
-    table_here t e = ap (λ s. s.table) (sym slot_is) ∙ e
+    table_here t is = ap (λ s. s.table) (sym slot_is) ∙ is
 
-    number_here : slot.table ≡ table.Types → slot.number ≡ length (state (take p m)).built.types
-    number_here e = ap (λ s. s.number) slot_is ∙ ap (λ t. number_of_next t (state (take p m))) (table_here table.Types e)
+    pub found_here : slot.table ≡ table.Types → equal_items (item_at m p) (item_of (state m) r) ≡ true → Some slot.number ≡ known (state m) r
+    found_here typed same =
+        let number : slot.number ≡ length (state (take p m)).built.types = ap (λ s. s.number) slot_is ∙ ap (λ t. number_of_next t (state (take p m))) (table_here table.Types typed) in
+        ap Some number ∙ sym (agrees m p inside holds.accepted (item_of (state m) r) (table_here table.Types typed) same) ∙ so_far.0
 
-    module _ (r : Record) (KnownSo : known_at m p (item_of (state m) r) ≡ known (state m) r) (from end : ℕ) (taking : TakingAt m p from) (end_is : end ≡ length (image (take (p + 1) m))) where
-      -- what the loop keeps: what is known, and where the next item begins
-      abbrev pub Goes_on : ℕ → Type 0
-      Goes_on next = (known_at m (p + 1) (item_of (state m) r) ≡ known (state m) r) × TakingAt m (p + 1) next
+    pub past_joined : (next : ℕ) → next ≡ from → slot.table ≡ table.Taken → Searched m r (p + 1) next
+    past_joined next is joined =
+        let here = table_here table.Taken joined in
+        let not_type : table_at m p ≡ table.Types → ⊥ = λ e. let z : table.Taken ≡ table.Types = sym here ∙ e in let y : ◌≡◌ {A = ℕ} 0 1 = cc in omega arith in
+        (passed m p inside holds.accepted (item_of (state m) r) not_type ∙ so_far.0, subst (TakingAt m (p + 1)) (sym is) (taking_joined m p inside holds.accepted from here so_far.1))
 
-      pub found_here : slot.table ≡ table.Types → equal_items (item_at m p) (item_of (state m) r) ≡ true → Some slot.number ≡ known (state m) r
-      found_here typed same = ap Some (number_here typed) ∙ sym (agrees m p inside holds.accepted (item_of (state m) r) (table_here table.Types typed) same) ∙ KnownSo
+    pub past_type : (next : ℕ) → next ≡ end → slot.table ≡ table.Types → equal_items (item_at m p) (item_of (state m) r) ≡ false → Searched m r (p + 1) next
+    past_type next is typed apart =
+        let here = table_here table.Types typed in
+        let not_taken : table_at m p ≡ table.Taken → ⊥ = λ e. let z : table.Types ≡ table.Taken = sym here ∙ e in let y : ◌≡◌ {A = ℕ} 0 1 = cc in omega arith in
+        (differs m p inside holds.accepted (item_of (state m) r) here apart ∙ so_far.0, taking_anew m p inside holds.accepted next not_taken (is ∙ end_is))
 
-      pub past_joined : (next : ℕ) → next ≡ from → slot.table ≡ table.Taken → Goes_on next
-      past_joined next is joined =
-          let here = table_here table.Taken joined in
-          let not_type : table_at m p ≡ table.Types → ⊥ = λ e. let z : table.Taken ≡ table.Types = sym here ∙ e in let y : ◌≡◌ {A = ℕ} 0 1 = cc in omega arith in
-          (passed m p inside holds.accepted (item_of (state m) r) not_type ∙ KnownSo, subst (TakingAt m (p + 1)) (sym is) (taking_joined m p inside holds.accepted from here taking))
-
-      pub past_type : (next : ℕ) → next ≡ end → slot.table ≡ table.Types → equal_items (item_at m p) (item_of (state m) r) ≡ false → Goes_on next
-      past_type next is typed apart =
-          let here = table_here table.Types typed in
-          let not_taken : table_at m p ≡ table.Taken → ⊥ = λ e. let z : table.Types ≡ table.Taken = sym here ∙ e in let y : ◌≡◌ {A = ℕ} 0 1 = cc in omega arith in
-          (differs m p inside holds.accepted (item_of (state m) r) here apart ∙ KnownSo, taking_anew m p inside holds.accepted next not_taken (is ∙ end_is))
-
-      pub past_other : (next : ℕ) → next ≡ end → (slot.table ≡ table.Taken → ⊥) → (slot.table ≡ table.Types → ⊥) → Goes_on next
-      past_other next is not_taken not_type =
-          let same : slot.table ≡ table_at m p = ap (λ s. s.table) slot_is in
-          (passed m p inside holds.accepted (item_of (state m) r) (λ e. not_type (same ∙ e)) ∙ KnownSo, taking_anew m p inside holds.accepted next (λ e. not_taken (same ∙ e)) (is ∙ end_is))
+    pub past_other : (next : ℕ) → next ≡ end → (slot.table ≡ table.Taken → ⊥) → (slot.table ≡ table.Types → ⊥) → Searched m r (p + 1) next
+    past_other next is not_taken not_type =
+        let same : slot.table ≡ table_at m p = ap (λ s. s.table) slot_is in
+        (passed m p inside holds.accepted (item_of (state m) r) (λ e. not_type (same ∙ e)) ∙ so_far.0, taking_anew m p inside holds.accepted next (λ e. not_taken (same ∙ e)) (is ∙ end_is))

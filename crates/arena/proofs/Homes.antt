@@ -1,9 +1,9 @@
 -- One record more adds one item to its table, of the module or of a body, and leaves the others as they are.
-use Rattle.std.proofs.Common.{◌≡◌, ℕ, zero, suc, ◌+◌, Bool, true, false, cond, ◌&&◌, ◌||◌, eqb, List, [], ◌∷◌, ◌++◌, map, length, Some, sym, refl, ap, ◌∙◌, subst, arith, None, Option}
+use Rattle.std.proofs.Common.{◌≡◌, ℕ, zero, suc, ◌+◌, Bool, true, false, ◌&&◌, ◌||◌, eqb, List, [], ◌∷◌, ◌++◌, map, length, Some, sym, refl, ap, ◌∙◌, subst, arith, None, Option}
 use lib.Dec.{eqb-zero-suc, eqb-suc-zero, eqb-suc-suc}
 use Rattle.std.specs.List.{slice_get}
-use Rattle.std.proofs.lemmas.List.{map_push, length-map, length_push}
-use Rattle.std.proofs.lemmas.Bool.{and_parts, and_left, and_right, or_parts, eqb-true}
+use Rattle.std.proofs.lemmas.List.{map_push}
+use Rattle.std.proofs.lemmas.Bool.{and_parts, and_left, and_right, or_parts}
 use Rattle.ir.specs.declared.handle.Table.{Table}
 use Rattle.ir.specs.declared.handle.Table.TheVariants as handles
 use Rattle.ir.specs.declared.kinds.Kind.{Kind}
@@ -20,7 +20,8 @@ use Rattle.draft.proofs.Stepping.{Admits}
 use Rattle.draft.proofs.Tallying.{statement_stays}
 use Rattle.arena.specs.declared.view.Home.{Home}
 use Rattle.arena.specs.declared.view.Home.TheVariants as home
-use Rattle.arena.specs.Viewing.{module_items, body_items, items_in, rank, same_table, module_table, body_table, slot_table, among, opens, other, entered, enters}
+use Rattle.arena.proofs.Tables.{same_is}
+use Rattle.arena.specs.Viewing.{module_items, body_items, items_in, same_table, module_table, body_table, slot_table, among, opens, other, entered, enters}
 
 abbrev pub grown : Bool → List Item → Item → List Item
 grown true xs i = xs ++ i ∷ []
@@ -28,27 +29,6 @@ grown false xs i = xs
 
 unchanged : (z : Bool) (xs : List Item) (i : Item) → z ≡ false → xs ≡ grown z xs i
 unchanged z xs i e = sym (ap (λ y. grown y xs i) e)
-
-unrank : ℕ → SlotTable
-unrank n = cond (eqb n 0) table.Unnumbered (cond (eqb n 1) table.Taken (cond (eqb n 2) table.Types (cond (eqb n 3) table.Overrides (cond (eqb n 4) table.Constants (cond (eqb n 5) table.GlobalVariables (cond (eqb n 6) table.Filters (cond (eqb n 7) table.Expressions (cond (eqb n 8) table.Functions (cond (eqb n 9) table.EntryPoints (cond (eqb n 10) table.LocalVariables (table.LocalExpressions)))))))))))
-
-unrank_rank : (t : SlotTable) → unrank (rank t) ≡ t
-unfolding unrank
-unrank_rank table.Unnumbered = refl
-unrank_rank table.Taken = refl
-unrank_rank table.Types = refl
-unrank_rank table.Overrides = refl
-unrank_rank table.Constants = refl
-unrank_rank table.GlobalVariables = refl
-unrank_rank table.Filters = refl
-unrank_rank table.Expressions = refl
-unrank_rank table.Functions = refl
-unrank_rank table.EntryPoints = refl
-unrank_rank table.LocalVariables = refl
-unrank_rank table.LocalExpressions = refl
-
-same_is : (t u : SlotTable) → same_table t u ≡ true → t ≡ u
-same_is t u e = sym (unrank_rank t) ∙ ap unrank (eqb-true (rank t) (rank u) e) ∙ unrank_rank u
 
 -- a table of a body
 abbrev local : SlotTable → Bool
@@ -90,8 +70,8 @@ data Goes (u : SlotTable) (i : Item) (o : Option BodyKind) (m : Module) (b : Bod
 
 outside_only : (o : Option BodyKind) → on_side o side.Outside ≡ true → o ≡ None
 outside_only None h = refl
-outside_only (Some body_kind.Function) h = let z : ◌≡◌ {A = ℕ} 0 1 = cc in absurd (omega arith)
-outside_only (Some body_kind.EntryPoint) h = let z : ◌≡◌ {A = ℕ} 0 1 = cc in absurd (omega arith)
+outside_only (Some body_kind.Function) h = absurd cc
+outside_only (Some body_kind.EntryPoint) h = absurd cc
 
 -- the tables of a module that have items and not bodies
 abbrev Tables : Type 0
@@ -118,17 +98,17 @@ module _ (m : Module) (b : Body) (i : Item) where
   goes_at kind.EntryPoint o h = begins refl (outside_only o h) refl refl refl refl
   goes_at kind.FunctionArgument o h = stays refl refl refl refl (record { opener = refl; locals = refl; expressions = refl }) (λ e. refl)
   goes_at kind.FunctionResult o h = stays refl refl refl refl (record { opener = refl; locals = refl; expressions = refl }) (λ e. refl)
-  goes_at kind.LocalVariable None h = let z : ◌≡◌ {A = ℕ} 0 1 = cc in absurd (omega arith)
-  goes_at kind.LocalVariable (Some body_kind.Function) h = stays refl refl refl refl (record { opener = refl; locals = refl; expressions = refl }) (λ e. let z : ◌≡◌ {A = ℕ} 0 1 = cc in absurd (omega arith))
-  goes_at kind.LocalVariable (Some body_kind.EntryPoint) h = stays refl refl refl refl (record { opener = refl; locals = refl; expressions = refl }) (λ e. let z : ◌≡◌ {A = ℕ} 0 1 = cc in absurd (omega arith))
+  goes_at kind.LocalVariable None h = absurd cc
+  goes_at kind.LocalVariable (Some body_kind.Function) h = stays refl refl refl refl (record { opener = refl; locals = refl; expressions = refl }) (λ e. absurd cc)
+  goes_at kind.LocalVariable (Some body_kind.EntryPoint) h = stays refl refl refl refl (record { opener = refl; locals = refl; expressions = refl }) (λ e. absurd cc)
   goes_at (kind.Type t) o h = stays refl refl refl refl (record { opener = refl; locals = refl; expressions = refl }) (λ e. refl)
   goes_at kind.Named o h = stays refl refl refl refl (record { opener = refl; locals = refl; expressions = refl }) (λ e. refl)
-  goes_at kind.EndFunction None h = let z : ◌≡◌ {A = ℕ} 0 1 = cc in absurd (omega arith)
+  goes_at kind.EndFunction None h = absurd cc
   goes_at kind.EndFunction (Some body_kind.Function) h = ends refl refl refl (closed b i) (record { opener = refl; locals = refl; expressions = refl }) refl refl
   goes_at kind.EndFunction (Some body_kind.EntryPoint) h = ends refl refl refl (closed b i) (record { opener = refl; locals = refl; expressions = refl }) refl refl
   goes_at (kind.Expression x) None h = stays refl refl refl refl (record { opener = refl; locals = refl; expressions = refl }) (λ e. refl)
-  goes_at (kind.Expression x) (Some body_kind.Function) h = stays refl refl refl refl (record { opener = refl; locals = refl; expressions = refl }) (λ e. let z : ◌≡◌ {A = ℕ} 0 1 = cc in absurd (omega arith))
-  goes_at (kind.Expression x) (Some body_kind.EntryPoint) h = stays refl refl refl refl (record { opener = refl; locals = refl; expressions = refl }) (λ e. let z : ◌≡◌ {A = ℕ} 0 1 = cc in absurd (omega arith))
+  goes_at (kind.Expression x) (Some body_kind.Function) h = stays refl refl refl refl (record { opener = refl; locals = refl; expressions = refl }) (λ e. absurd cc)
+  goes_at (kind.Expression x) (Some body_kind.EntryPoint) h = stays refl refl refl refl (record { opener = refl; locals = refl; expressions = refl }) (λ e. absurd cc)
   goes_at (kind.Statement x) o h = stays refl (statement_stays x o) refl refl (record { opener = refl; locals = refl; expressions = refl }) (λ e. refl)
   goes_at kind.End o h = stays refl refl refl refl (record { opener = refl; locals = refl; expressions = refl }) (λ e. refl)
   goes_at kind.EndLoop o h = stays refl refl refl refl (record { opener = refl; locals = refl; expressions = refl }) (λ e. refl)
@@ -281,16 +261,6 @@ module _ (t : Table) (u : SlotTable) (i : Item) (n k : ℕ) (opened o : Option B
       subst (λ y. Flag n y xs' (entered n f k opened)) (sym p) (subst (λ y. Flag n opened y (entered n f k opened)) (sym q) (begin_flag n k f opened xs here))
   flag_step (Turns.ends l e p c g q) h = subst (λ y. Flag n y xs' (entered n f k opened)) (sym p) tt
 
-  stay_number : (a : Option BodyKind) → Flag n a xs f → (a ≡ None → local u ≡ false) → (among (body_table t) u ≡ true → k ≡ length (body_items t (Some b))) → f ≡ true → among (body_table t) u ≡ true → k ≡ length (body_items t (slice_get (now_in a xs b) n))
-  stay_number None fl out num e w = let v = not_among t u (out refl) in let z : ◌≡◌ {A = ℕ} 0 1 = cc in absurd (omega arith)
-  stay_number (Some body_kind.Function) fl out num e w = num w ∙ ap (λ y. length (body_items t y)) (sym (nth_last xs b)) ∙ ap (λ y. length (body_items t (slice_get (xs ++ b ∷ []) y))) (eqb-true (length xs) n (sym fl ∙ e))
-  stay_number (Some body_kind.EntryPoint) fl out num e w = let z : ◌≡◌ {A = ℕ} 0 1 = cc in absurd (omega arith)
-
-  number_step : Turns u i opened o xs b o' xs' b' → (among (body_table t) u ≡ true → k ≡ length (body_items t (Some b))) → (entered n f k opened && among (body_table t) u) ≡ true → k ≡ length (body_items t (slice_get (now_in o xs b) n))
-  number_step (Turns.stays e p q g out) num w = let both = and_parts (entered n f k opened) _ w in stay_number o flag out num (sym (ap (entered n f k) e) ∙ both.0) both.1
-  number_step (Turns.begins l z p q r) num w = let v = not_among t u l in let v2 = (and_parts (entered n f k opened) _ w).1 in let z : ◌≡◌ {A = ℕ} 0 1 = cc in absurd (omega arith)
-  number_step (Turns.ends l e p c g q) num w = let v = not_among t u l in let v2 = (and_parts (entered n f k opened) _ w).1 in let z : ◌≡◌ {A = ℕ} 0 1 = cc in absurd (omega arith)
-
 abbrev openers : List Body → List Item
 openers bs = map (λ b. b.opener) bs
 
@@ -314,11 +284,6 @@ openers_step : (u : SlotTable) (i : Item) (opened o : Option BodyKind) (xs : Lis
 openers_step u i opened o xs b o' xs' b' (Turns.stays e p q g out) = ap (λ y. openers (now_in y xs' b')) p ∙ ap (λ y. openers (now_in o y b')) q ∙ openers_stay o xs b b' g.opener ∙ unchanged _ _ i (ap mine e)
 openers_step u i opened o xs b o' xs' b' (Turns.begins l z p q r) = ap (λ y. openers (now_in y xs' b')) p ∙ ap (λ y. openers (now_in opened y b')) q ∙ ap (λ y. openers (now_in opened xs y)) r ∙ openers_begin opened xs i ∙ ap (λ y. grown (mine opened) (openers (now_in y xs b)) i) (sym z)
 openers_step u i opened o xs b o' xs' b' (Turns.ends l e p c g q) = ap (λ y. openers (now_in y xs' b')) p ∙ ap openers q ∙ openers_stay o xs b c g.opener ∙ unchanged _ _ i (ap mine e)
-
-openers_count : (o : Option BodyKind) (xs : List Body) (b : Body) → length xs + function_open o ≡ length (openers (now_in o xs b))
-openers_count None xs b = let e = length-map xs (λ (x : Body). x.opener) in omega arith
-openers_count (Some body_kind.Function) xs b = let e = length-map (xs ++ b ∷ []) (λ (x : Body). x.opener) in let l = length_push xs b in omega arith
-openers_count (Some body_kind.EntryPoint) xs b = let e = length-map xs (λ (x : Body). x.opener) in omega arith
 
 entry_counts : (o : Option BodyKind) → entry_open o ≡ function_open (other o)
 entry_counts None = refl
@@ -362,7 +327,6 @@ FlagOf (home.EntryPoint n) s f = Flag n (other s.opened) s.built.entries f
 -- what one more record does to the items of a table
 pub record Step (h : Home) (t : Table) (s s' : State) (u : SlotTable) (i : Item) (f : Bool) : Type 0 where
   pub items : items_in h t s' ≡ grown (enters h f u (number_of_next u s) && among (slot_table h t) u) (items_in h t s) i
-  pub number : (enters h f u (number_of_next u s) && among (slot_table h t) u) ≡ true → number_of_next u s ≡ length (items_in h t s)
   pub flag : FlagOf h s' (enters h f u (number_of_next u s))
 
 module _ (s : State) (r : Record) (k : Kind) (a : Admits s r k) where
@@ -409,34 +373,6 @@ module _ (s : State) (r : Record) (k : Kind) (a : Admits s r k) where
   numbered : (w : SlotTable) → same_table w u ≡ true → number_of_next u s ≡ number_of_next w s
   numbered w e = ap (λ y. number_of_next y s) (sym (same_is w u e))
 
-  functions_number : number_of_next table.Functions s ≡ length (openers (functions_now s.opened s.built s.body))
-  functions_number = openers_count s.opened s.built.functions s.body ∙ ap (λ y. length (openers y)) (sym (functions_are s.opened s.built s.body))
-
-  entries_number : number_of_next table.EntryPoints s ≡ length (openers (entries_now s.opened s.built s.body))
-  entries_number = ap (λ y. length s.built.entries + y) (entry_counts s.opened) ∙ openers_count (other s.opened) s.built.entries s.body ∙ ap (λ y. length (openers y)) (sym (entries_are s.opened s.built s.body))
-
-  module_number : (t : Table) → among (module_table t) u ≡ true → number_of_next u s ≡ length (module_items t s)
-  module_number handles.Types e = numbered table.Types e
-  module_number handles.Constants e = numbered table.Constants e
-  module_number handles.Overrides e = numbered table.Overrides e
-  module_number handles.GlobalVariables e = numbered table.GlobalVariables e
-  module_number handles.LocalVariables e = let z : ◌≡◌ {A = ℕ} 0 1 = cc in absurd (omega arith)
-  module_number handles.Expressions e = numbered table.Expressions e
-  module_number handles.Functions e = numbered table.Functions e ∙ functions_number
-  module_number handles.Filters e = numbered table.Filters e
-  module_number handles.EntryPoints e = numbered table.EntryPoints e ∙ entries_number
-
-  body_number : (t : Table) → among (body_table t) u ≡ true → number_of_next u s ≡ length (body_items t (Some s.body))
-  body_number handles.Types e = let z : ◌≡◌ {A = ℕ} 0 1 = cc in absurd (omega arith)
-  body_number handles.Constants e = let z : ◌≡◌ {A = ℕ} 0 1 = cc in absurd (omega arith)
-  body_number handles.Overrides e = let z : ◌≡◌ {A = ℕ} 0 1 = cc in absurd (omega arith)
-  body_number handles.GlobalVariables e = let z : ◌≡◌ {A = ℕ} 0 1 = cc in absurd (omega arith)
-  body_number handles.LocalVariables e = numbered table.LocalVariables e
-  body_number handles.Expressions e = numbered table.LocalExpressions e
-  body_number handles.Functions e = let z : ◌≡◌ {A = ℕ} 0 1 = cc in absurd (omega arith)
-  body_number handles.Filters e = let z : ◌≡◌ {A = ℕ} 0 1 = cc in absurd (omega arith)
-  body_number handles.EntryPoints e = let z : ◌≡◌ {A = ℕ} 0 1 = cc in absurd (omega arith)
-
   function_number : opens u ≡ Some body_kind.Function → number_of_next u s ≡ length s.built.functions + function_open s.opened
   function_number e = numbered table.Functions (sym (function_mine u) ∙ ap mine e)
 
@@ -444,14 +380,12 @@ module _ (s : State) (r : Record) (k : Kind) (a : Admits s r k) where
   entry_number e = numbered table.EntryPoints (sym (entry_mine u) ∙ ap mine e) ∙ ap (λ y. length s.built.entries + y) (entry_counts s.opened)
 
   pub home_step : (h : Home) (t : Table) (f : Bool) → FlagOf h s f → Step h t s s' u i f
-  home_step home.Module t f flag = record { items = module_step t; number = module_number t; flag = tt }
+  home_step home.Module t f flag = record { items = module_step t; flag = tt }
   home_step (home.Function n) t f flag = record {
     items = ap (λ y. body_items t (slice_get y n)) (functions_are s'.opened s'.built s'.body) ∙ body_step t u i n (number_of_next u s) (opens u) s.opened s.built.functions s.body s'.opened s'.built.functions s'.body f flag functions_turn ∙ ap (λ y. grown (entered n f (number_of_next u s) (opens u) && among (body_table t) u) (body_items t (slice_get y n)) i) (sym (functions_are s.opened s.built s.body));
-    number = λ w. number_step t u i n (number_of_next u s) (opens u) s.opened s.built.functions s.body s'.opened s'.built.functions s'.body f flag functions_turn (body_number t) w ∙ ap (λ y. length (body_items t (slice_get y n))) (sym (functions_are s.opened s.built s.body));
     flag = flag_step t u i n (number_of_next u s) (opens u) s.opened s.built.functions s.body s'.opened s'.built.functions s'.body f flag functions_turn function_number;
   }
   home_step (home.EntryPoint n) t f flag = record {
     items = ap (λ y. body_items t (slice_get y n)) (entries_are s'.opened s'.built s'.body) ∙ body_step t u i n (number_of_next u s) (other (opens u)) (other s.opened) s.built.entries s.body (other s'.opened) s'.built.entries s'.body f flag entries_turn ∙ ap (λ y. grown (entered n f (number_of_next u s) (other (opens u)) && among (body_table t) u) (body_items t (slice_get y n)) i) (sym (entries_are s.opened s.built s.body));
-    number = λ w. number_step t u i n (number_of_next u s) (other (opens u)) (other s.opened) s.built.entries s.body (other s'.opened) s'.built.entries s'.body f flag entries_turn (body_number t) w ∙ ap (λ y. length (body_items t (slice_get y n))) (sym (entries_are s.opened s.built s.body));
     flag = flag_step t u i n (number_of_next u s) (other (opens u)) (other s.opened) s.built.entries s.body (other s'.opened) s'.built.entries s'.body f flag entries_turn entry_number;
   }

@@ -1,3 +1,4 @@
+pub mod Tables
 pub mod Placing
 pub mod Blocks
 pub mod Putting

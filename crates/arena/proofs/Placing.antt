@@ -1,7 +1,7 @@
 -- What stands where in the memory of a draft.
 use Rattle.std.proofs.Common.{◌≡◌, ℕ, zero, suc, ◌+◌, ◌-◌, ◌<◌, ◌≤◌, true, List, [], ◌∷◌, ◌++◌, length, get_or, take, drop, set, is_ok, fold, sym, refl, ap, ◌∙◌, subst, append_assoc, append-nil, arith, length-append, length-drop, length-take}
 use Rattle.std.specs.List.{between}
-use Rattle.std.proofs.lemmas.List.{take_at, take_all, drop_at, get_or-take, take_more_set, take-append-drop, take_more, drop_more}
+use Rattle.std.proofs.lemmas.List.{take_at, take_all, drop_at, take_more_set, take-append-drop, take_more, drop_more}
 use Rattle.ir.specs.declared.kinds.Kind.{Kind}
 use Rattle.draft.specs.Admitted.{Accepted, admitted, image}
 use Rattle.arena.specs.declared.Draft.{Draft}
@@ -106,15 +106,6 @@ module _ {d : Counts} {bytes : List ℕ} {slots : List Slot} {m : List Record} (
   pub state_at : (p : ℕ) → Counted (take p m) (state (take p m))
   state_at p = counted_so (take p m) (accepted_front start (take p m) (drop p m) (subst (Accepted start) (sym (take-append-drop p m)) h.accepted))
 
-  pub slot_is : (p : ℕ) (e : Slot) → p < d.kept → get_or slots p e ≡ slot_of (state (take p m)) (get_or m p [])
-  unfolding state
-  slot_is p e l =
-      let k : p < length m = subst (λ n. p < n) kept_is l in
-      sym (get_or-take d.kept slots p e l) ∙ ap (λ s. get_or s p e) h.slots_are ∙ layout_at start m p e k
-
-  pub start_is : (p : ℕ) (e : Slot) → p < d.kept → (get_or slots p e).start ≡ length (image (take p m))
-  start_is p e l = ap (λ s. s.start) (slot_is p e l) ∙ (state_at p).used_is
-
   -- a run of the kept read_off, as the memory has it
   pub block_is : (a b c : List Record) → a ++ (b ++ c) ≡ m → between (length (image a)) (length (image (a ++ b))) bytes ≡ image b
   block_is a b c e = ap (between (length (image a)) (length (image (a ++ b)))) (bytes_split ∙ ap (λ l. image l ++ drop d.used bytes) (sym e)) ∙ block a b c (drop d.used bytes)
@@ -140,11 +131,20 @@ module _ {d : Counts} {bytes : List ℕ} {slots : List Slot} {m : List Record} (
     accepted = accepted_more m r h.accepted ok;
   }
 
-  pub end_is : (p : ℕ) → d.kept ≤ p → d.used ≡ length (image (take p m))
-  end_is p l = used_is ∙ ap (λ t. length (image t)) (sym (take_all p m (subst (λ n. n ≤ p) kept_is l)))
-
   pub start_more : (p : ℕ) → p < d.kept → length (image (take (p + 1) m)) ≡ length (image (take p m)) + length (get_or m p [])
   start_more p l = ap (λ t. length (image t)) (take_more m p [] (subst (λ n. p < n) kept_is l)) ∙ image_more (take p m) (get_or m p [])
+
+  -- the slot at a place, and where its record begins
+  pub slot_there : {ss : List Slot} → ss ≡ layout m → (p : ℕ) (e : Slot) → p < length ss → get_or ss p e ≡ slot_of (state (take p m)) (get_or m p [])
+  unfolding state
+  slot_there is p e l = ap (λ s. get_or s p e) is ∙ layout_at start m p e (subst (λ n. p < n) (ap length is ∙ length_layout start m) l)
+
+  pub start_there : {ss : List Slot} → ss ≡ layout m → (p : ℕ) (e : Slot) → p < length ss → (get_or ss p e).start ≡ length (image (take p m))
+  start_there is p e l = ap (λ s. s.start) (slot_there is p e l) ∙ (state_at p).used_is
+
+  -- past the last one, the end of what is kept
+  pub end_there : {ss : List Slot} → ss ≡ layout m → (p : ℕ) → length ss ≤ p → d.used ≡ length (image (take p m))
+  end_there is p l = used_is ∙ ap (λ t. length (image t)) (sym (take_all p m (subst (λ n. n ≤ p) (ap length is ∙ length_layout start m) l)))
 
   pub record_part : (p a b : ℕ) → p < d.kept → a ≡ length (image (take p m)) → b ≡ length (image (take (p + 1) m)) → between a b bytes ≡ get_or m p []
   record_part p a b l e f = ap (λ n. between n b bytes) e ∙ ap (λ n. between (length (image (take p m))) n bytes) f ∙ record_is p l

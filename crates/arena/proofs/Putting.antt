@@ -21,8 +21,7 @@ use Rattle.rules.specs.Module.{Record}
 use Rattle.draft.specs.State.{State, start, step, state, innermost, deepens, table_in, table_of, number_of_next}
 use Rattle.draft.specs.Counting.{counts_of, counted, top, advanced, freed}
 use Rattle.draft.specs.Stacking.{Turns}
-use Rattle.arena.specs.declared.answer.Answer.{Answer}
-use Rattle.arena.specs.Answer.{answered}
+use Rattle.arena.specs.Answer.{Answer, answered}
 use Rattle.arena.specs.Put.{has_room, fits, added, known, known_or_added, put_in, put_admitted, put_def}
 use Rattle.arena.specs.Memory.{layout_from, layout, Holds, Kept, slot_of, slot_in}
 use Rattle.draft.proofs.Stepping.{Admits, admits, accepted_front, image_append}
@@ -108,7 +107,7 @@ module _ {d : Counts} {bytes : List ℕ} {slots : List Slot} {m : List Record} (
   kept_front a b d' a_is d'_is is =
       let left : take (length m - length (state m).waiting) m ≡ fronted_now.front = front_is m (state m) fronted_now in
       let same : d' ≡ freed d (length (image fronted_now.front)) = d'_is ∙ ap (λ l. freed d (length (image l))) front_now in
-      rw (is, left, same, a_is) (record { answers = refl; stands = stands_now holds_front; keeps = records_are holds_front; unchanged = λ bad. let z : ◌≡◌ {A = ℕ} 0 1 = cc in absurd (omega arith) })
+      rw (is, left, same, a_is) (record { answers = refl; stands = stands_now holds_front; keeps = records_are holds_front; unchanged = λ bad. absurd cc })
 
   module _ (r : Record) (k : Kind) (e : admitted (state m) r ≡ Ok k) where
     ad : Admits (state m) r k
@@ -153,7 +152,7 @@ module _ {d : Counts} {bytes : List ℕ} {slots : List Slot} {m : List Record} (
           answers = refl;
           stands = stands_now after;
           keeps = records_are after;
-          unchanged = λ bad. let z : ◌≡◌ {A = ℕ} 0 1 = cc in absurd (omega arith);
+          unchanged = λ bad. absurd cc;
         })
 
     pub refused : (t : SlotTable) → t ≡ table_in d.opened (manner_of k).table → (n : ℕ) → n ≡ counted d.lengths t

@@ -1,6 +1,7 @@
 -- How a draft stands in the memory that is lent.
 use Rattle.std.specs.Prelude.{◌≡◌, ℕ, ◌+◌, true, List, [], ◌∷◌, length, take, drop, is_err, Ok, Err, Result}
 use Rattle.std.specs.List.{between}
+use Rattle.std.specs.Coded.{×_prop, Unit-prop, Coded-set, coded_bool}
 use Rattle.ir.specs.declared.kinds.Kind.{Kind}
 use Rattle.records.specs.declared.judge.Flaw.{Flaw}
 use Rattle.records.specs.Record.{judged}
@@ -12,7 +13,7 @@ use Rattle.draft.specs.declared.counts.Counts.{Counts}
 use Rattle.draft.specs.State.{State, start, step, state, table_of, number_of_next}
 use Rattle.draft.specs.Counting.{counts_of}
 use Rattle.draft.specs.Admitted.{image, Accepted}
-use Rattle.arena.specs.declared.answer.Answer.{Answer}
+use Rattle.arena.specs.Answer.{Answer}
 use Rattle.arena.specs.declared.slot.Slot.{Slot}
 use Rattle.arena.specs.declared.Draft.{Draft}
 
@@ -64,6 +65,11 @@ records d bytes slots = read_off d.counts bytes slots
 -- the memory is as the draft's last call left it: it holds the records that are read off it
 abbrev pub Stands : Draft → List ℕ → List Slot → Type 0
 Stands d bytes slots = Standing d.counts bytes slots
+
+-- records are accepted in one way, so that a struct can hold the fact that its memory stands
+pub Accepted-prop : (s : State) (m : List Record) → IsProp (Accepted s m)
+Accepted-prop s [] = Unit-prop
+Accepted-prop s (r ∷ m) = ×_prop (Coded-set coded_bool _ _) (Accepted-prop (step s r) m)
 
 -- free memory: what lies behind the last record
 abbrev pub free_bytes : Draft → List ℕ → List ℕ

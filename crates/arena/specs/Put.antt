@@ -9,8 +9,7 @@ use Rattle.draft.specs.declared.state.SlotTable.{SlotTable}
 use Rattle.draft.specs.declared.state.SlotTable.TheVariants as table
 use Rattle.draft.specs.State.{State, state, item_of, table_of, number_of_next}
 use Rattle.draft.specs.Admitted.{admitted}
-use Rattle.arena.specs.declared.answer.Answer.{Answer}
-use Rattle.arena.specs.Answer.{answered}
+use Rattle.arena.specs.Answer.{Answer, answered}
 
 abbrev pub same_records : List Record → List Record → Bool
 same_records [] [] = true

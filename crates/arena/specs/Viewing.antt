@@ -147,12 +147,7 @@ enters home.Module inside t k = true
 enters (home.Function n) inside t k = entered n inside k (opens t)
 enters (home.EntryPoint n) inside t k = entered n inside k (other (opens t))
 
--- the place of the slot with this number in the table of a home, among slots that begin at a place
-abbrev pub sought : Home → Option SlotTable → ℕ → Bool → ℕ → List Slot → Option ℕ
-sought h w n inside p [] = None
-sought h w n inside p (s ∷ ss) = cond (enters h inside s.table s.number && among w s.table && s.number == n) (Some p) (sought h w n (enters h inside s.table s.number) (p + 1) ss)
-
--- how many slots are in the table of a home
-abbrev pub tallied : Home → Option SlotTable → Bool → List Slot → ℕ
-tallied h w inside [] = 0
-tallied h w inside (s ∷ ss) = cond (enters h inside s.table s.number && among w s.table) 1 0 + tallied h w (enters h inside s.table s.number) ss
+-- the places of the slots in the table of a home, among slots that begin at a place
+abbrev pub places_left : Home → Option SlotTable → Bool → ℕ → List Slot → List ℕ
+places_left h w inside p [] = []
+places_left h w inside p (s ∷ ss) = cond (enters h inside s.table s.number && among w s.table) (p ∷ places_left h w (enters h inside s.table s.number) (p + 1) ss) (places_left h w (enters h inside s.table s.number) (p + 1) ss)

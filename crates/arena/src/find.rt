@@ -4,50 +4,46 @@ ghost use Rattle.records.specs.Record.{judged};
 ghost use Rattle.draft.specs.State.{state};
 ghost use Rattle.draft.specs.Admitted.{image};
 ghost use Rattle.arena.specs.Put.{known};
-ghost use Rattle.arena.specs.Memory.{Stands, records};
+ghost use Rattle.arena.specs.Viewing.{viewed};
 
-use crate::Draft;
-use crate::slot::Slot;
+use crate::view::View;
 use draft::state::SlotTable;
 
 /// Whether a block is these two, one after the other.
 fn is_joined(block: &[u8], front: &[u8], rest: &[u8]) -> bool
     ensures { Decides result (block.now ≡ front.now ++ rest.now) }
 {
-    if front.len() > block.len() {
-        return false;
+    match block.strip_prefix(front) {
+        Some(after) => after == rest,
+        None => false,
     }
-    let (first, second) = block.split_at(front.len());
-    first == front && second == rest
 }
 
-impl Draft {
+impl<'a> View<'a> {
     /// What waits, as one block of bytes.
-    fn waiting_block<'a>(&self, bytes: &'a [u8], slots: &[Slot]) -> &'a [u8]
-        requires { Stands self.now bytes.now slots.now }
-        ensures { result.now ≡ image (state (records self.now bytes.now slots.now)).waiting }
+    fn waiting_block(self) -> &'a [u8]
+        ensures { result.now ≡ image (state (viewed self.entry)).waiting }
     {
-        let start = self.start_of(bytes, slots, self.counts.kept - self.counts.waiting);
-        let end = self.counts.used;
-        &bytes[start..end]
+        let start = self.start_of(self.draft.counts.kept - self.draft.counts.waiting);
+        let end = self.draft.counts.used;
+        &self.bytes[start..end]
     }
 
     /// The number of the kept type that equals this one, with what it would take.
-    pub(crate) fn find(&self, bytes: &[u8], slots: &[Slot], record: &[u8]) -> Option<u32>
-        requires stands { Stands self.now bytes.now slots.now }
-        requires sound { is_ok (judged «record».now) ≡ true }
-        ensures { result ≡ known (state (records self.now bytes.now slots.now)) «record».now }
+    pub(crate) fn find(self, record: &[u8]) -> Option<u32>
+        requires { is_ok (judged «record».now) ≡ true }
+        ensures { result ≡ known (state (viewed self.entry)) «record».now }
     {
-        let waiting = self.waiting_block(bytes, slots);
+        let waiting = self.waiting_block();
+        let kept = self.kept_slots();
         let mut from = 0;
-        for place in 0..self.counts.kept {
-            let Slot { table, number, .. } = self.slot_at(bytes, slots, place);
-            let end = self.start_of(bytes, slots, place + 1);
-            match table {
+        for (place, slot) in kept.iter().enumerate() {
+            let end = self.start_of(place + 1);
+            match slot.table {
                 SlotTable::Taken => {}
                 SlotTable::Types => {
-                    if is_joined(&bytes[from..end], waiting, record) {
-                        return Some(number);
+                    if is_joined(&self.bytes[from..end], waiting, record) {
+                        return Some(slot.number);
                     }
                     from = end;
                 }

@@ -3,7 +3,8 @@
 
 pub mod answer;
 mod find;
-mod lookup;
+mod home;
+mod places;
 mod put;
 pub mod slot;
 pub mod view;

@@ -9,12 +9,13 @@ ghost use Rattle.arena.specs.Memory.{Stands, records, Free, KeptAs};
 ghost use Rattle.laws.specs.Lawful.{Lawful};
 
 use crate::Draft;
-use crate::answer::Answer;
+use crate::answer::item;
 use crate::slot::Slot;
 use draft::behaviour::{manner, table_in};
 use draft::counts::Counts;
 use draft::refusal::Refusal;
 use draft::state::SlotTable;
+use ir::handle::Handle;
 use ir::kinds::Kind;
 
 impl Draft {
@@ -50,7 +51,7 @@ impl Draft {
         ensures { self.new.counts ≡ freed self.old.counts (length (image (take (self.old.counts.kept - self.old.counts.waiting) (records self.old bytes.now slots.now)))) }
     {
         let place = self.counts.kept - self.counts.waiting;
-        self.counts.used = self.start_of(bytes, slots, place);
+        self.counts.used = self.view(bytes, slots).start_of(place);
         self.counts.kept = place;
         self.counts.waits = None;
         self.counts.waiting = 0;
@@ -63,7 +64,7 @@ impl Draft {
         slots: &mut [Slot],
         record: &[u8],
         kind: Kind,
-    ) -> Result<Answer, Refusal>
+    ) -> Result<Option<Handle>, Refusal>
         requires stands { Stands self.old bytes.old slots.old }
         requires sound { admitted (state (records self.old bytes.old slots.old)) «record».now ≡ Ok kind }
         ensures { KeptAs (added (length bytes.old) (length slots.old) (records self.old bytes.old slots.old) «record».now (table_of (state (records self.old bytes.old slots.old)) kind)) result self.old bytes.old slots.old self.new bytes.new slots.new }
@@ -82,16 +83,17 @@ impl Draft {
             number,
         };
         self.counts.advance(record.len(), ways);
-        Ok(Answer::of(table, number))
+        Ok(item(table, number))
     }
 
     /// Puts a record: the item that it is, or the refusal.
+    // The draft holds no memory: bytes and slots are lent on each call, because C calls it so.
     pub fn put(
         &mut self,
         bytes: &mut [u8],
         slots: &mut [Slot],
         record: &[u8],
-    ) -> Result<Answer, Refusal>
+    ) -> Result<Option<Handle>, Refusal>
         requires { Stands self.old bytes.old slots.old }
         ensures kept { KeptAs (put_def (length bytes.old) (length slots.old) (records self.old bytes.old slots.old) «record».now) result self.old bytes.old slots.old self.new bytes.new slots.new }
         ensures free { Free self.new bytes.new slots.new }
@@ -99,9 +101,9 @@ impl Draft {
     {
         let kind = self.counts.admit(record)?;
         if let SlotTable::Types = manner(kind).table {
-            if let Some(number) = self.find(bytes, slots, record) {
+            if let Some(number) = self.view(bytes, slots).find(record) {
                 self.free(bytes, slots);
-                return Ok(Answer::of(SlotTable::Types, number));
+                return Ok(item(SlotTable::Types, number));
             }
         }
         self.append(bytes, slots, record, kind)

@@ -42,6 +42,7 @@ pub struct Counts {
     pub brackets: Brackets,
     pub waits: Option<Pieces>,
     /// How many records wait.
+    // Beside `waits` and not inside it: it is the length of the list that waits, also where that is empty.
     pub waiting: usize,
 }
 

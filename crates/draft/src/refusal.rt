@@ -6,7 +6,7 @@ ghost use Rattle.draft.specs.Admitted.{refusal_number};
 use records::judge::Flaw;
 
 /// In the order in which they are tested.
-#[derive(Clone, Copy)]
+#[derive(Clone, Copy, PartialEq, Eq, Debug)]
 pub enum Refusal {
     /// Refusals 1 to 3: it would be refused wherever it stood.
     Flawed(Flaw),

@@ -1,5 +1,5 @@
 -- One record more: every table keeps its items, and the item that the record makes is where its number says.
-use Rattle.std.proofs.Common.{◌≡◌, ℕ, ◌+◌, true, ◌⊎◌, List, [], ◌∷◌, ◌++◌, map, length, Some, sym, refl, ap, ◌∙◌, subst, inl, inr, ⊎_elim, arith, None, Option}
+use Rattle.std.proofs.Common.{◌≡◌, ℕ, ◌+◌, true, ◌⊎◌, List, [], ◌∷◌, ◌++◌, map, length, Some, None, sym, refl, ap, ◌∙◌, subst, inl, inr, ⊎_elim, arith, Option}
 use Rattle.std.specs.List.{slice_get}
 use Rattle.std.proofs.lemmas.Bool.{and_parts}
 use Rattle.ir.specs.declared.handle.Handle.{Handle}
@@ -18,9 +18,7 @@ use Rattle.draft.specs.Manner.{manner_of}
 use Rattle.draft.specs.State.{State, stepped, item_of, on_side, open_after, functions_now, entries_now, module_after, body_after, number_of_next, table_of}
 use Rattle.draft.proofs.Tallying.{statement_stays}
 use Rattle.draft.proofs.Stepping.{Admits}
-use Rattle.arena.specs.declared.answer.Answer.{Answer}
-use Rattle.arena.specs.declared.answer.Answer.TheVariants as answer
-use Rattle.arena.specs.Answer.{answered}
+use Rattle.arena.specs.Answer.{Answer, answered}
 use Rattle.arena.specs.Viewing.{body_items, items_in}
 use Rattle.history.specs.Homes.{home_of}
 use Rattle.history.proofs.Keeping.{nth_push, nth_map, keeps_same, keeps_push, parts_of, BodyOn, parts_same, BodiesOn, bodies_front, bodies_last, bodies_same, tables_of, TablesOn, tables_same, StateOn}
@@ -33,8 +31,8 @@ data Goes (o : Option BodyKind) (m : Module) (b : Body) (o' : Option BodyKind) (
 
 outside_only : (o : Option BodyKind) → on_side o side.Outside ≡ true → o ≡ None
 outside_only None h = refl
-outside_only (Some body_kind.Function) h = let z : ◌≡◌ {A = ℕ} 0 1 = cc in absurd (omega arith)
-outside_only (Some body_kind.EntryPoint) h = let z : ◌≡◌ {A = ℕ} 0 1 = cc in absurd (omega arith)
+outside_only (Some body_kind.Function) h = absurd cc
+outside_only (Some body_kind.EntryPoint) h = absurd cc
 
 module _ (m : Module) (b : Body) (i : Item) where
   goes_at : (k : Kind) (o : Option BodyKind) → on_side o (manner_of k).side ≡ true → Goes o m b (open_after (manner_of k).motion o) (module_after k o b i m) (body_after k o i b)
@@ -153,8 +151,8 @@ inner_last bs b i = ap (λ p. slice_get (body_items handles.Expressions p) (leng
 
 -- the table of an answer's handle
 abbrev pub answer_table : Answer → Table
-answer_table (answer.Item h) = handle_table h
-answer_table answer.Unnumbered = handles.Types
+answer_table (Some h) = handle_table h
+answer_table None = handles.Types
 
 -- what is answered for the next item of this kind
 abbrev next_answer : State → Kind → Answer
@@ -162,7 +160,7 @@ next_answer s k = answered (table_of s k) (number_of_next (table_of s k) s)
 
 -- the next item of this kind gets its number in its home if it is answered one
 abbrev Placed : State → Record → Kind → Type 0
-Placed s r k = (h : Handle) → next_answer s k ≡ answer.Item h → slice_get (items_in (home_of s k) (answer_table (next_answer s k)) (stepped k r s)) (number_of_next (table_of s k) s) ≡ Some (item_of s r)
+Placed s r k = (h : Handle) → next_answer s k ≡ Some h → slice_get (items_in (home_of s k) (answer_table (next_answer s k)) (stepped k r s)) (number_of_next (table_of s k) s) ≡ Some (item_of s r)
 
 module _ (m : Module) (b : Body) (bs : List Bracket) (w : Option Pieces) (ws : List Record) (n u : ℕ) (r : Record) where
   abbrev at : Option BodyKind → State
@@ -172,39 +170,39 @@ module _ (m : Module) (b : Body) (bs : List Bracket) (w : Option Pieces) (ws : L
   new = record { place = n; bytes = r; taken = ws }
 
   placed_at : (k : Kind) (o : Option BodyKind) → on_side o (manner_of k).side ≡ true → Placed (at o) r k
-  placed_at kind.Member o s = λ h e. let z : ◌≡◌ {A = ℕ} 0 1 = cc in absurd (omega arith)
-  placed_at kind.Operand o s = λ h e. let z : ◌≡◌ {A = ℕ} 0 1 = cc in absurd (omega arith)
+  placed_at kind.Member o s = λ h e. absurd cc
+  placed_at kind.Operand o s = λ h e. absurd cc
   placed_at kind.Override o s = λ h e. nth_push m.overrides new
   placed_at kind.Constant o s = λ h e. nth_push m.constants new
   placed_at kind.GlobalVariable o s = λ h e. nth_push m.globals new
-  placed_at kind.SpecialTypes o s = λ h e. let z : ◌≡◌ {A = ℕ} 0 1 = cc in absurd (omega arith)
-  placed_at kind.Predeclared o s = λ h e. let z : ◌≡◌ {A = ℕ} 0 1 = cc in absurd (omega arith)
+  placed_at kind.SpecialTypes o s = λ h e. absurd cc
+  placed_at kind.Predeclared o s = λ h e. absurd cc
   placed_at kind.Filter o s = λ h e. nth_push m.filters new
-  placed_at kind.Leaf o s = λ h e. let z : ◌≡◌ {A = ℕ} 0 1 = cc in absurd (omega arith)
+  placed_at kind.Leaf o s = λ h e. absurd cc
   placed_at kind.Function None s = λ h e. opener_last m.functions new
-  placed_at kind.Function (Some body_kind.Function) s = let z : ◌≡◌ {A = ℕ} 0 1 = cc in absurd (omega arith)
-  placed_at kind.Function (Some body_kind.EntryPoint) s = let z : ◌≡◌ {A = ℕ} 0 1 = cc in absurd (omega arith)
+  placed_at kind.Function (Some body_kind.Function) s = absurd cc
+  placed_at kind.Function (Some body_kind.EntryPoint) s = absurd cc
   placed_at kind.EntryPoint None s = λ h e. opener_last m.entries new
-  placed_at kind.EntryPoint (Some body_kind.Function) s = let z : ◌≡◌ {A = ℕ} 0 1 = cc in absurd (omega arith)
-  placed_at kind.EntryPoint (Some body_kind.EntryPoint) s = let z : ◌≡◌ {A = ℕ} 0 1 = cc in absurd (omega arith)
-  placed_at kind.FunctionArgument o s = λ h e. let z : ◌≡◌ {A = ℕ} 0 1 = cc in absurd (omega arith)
-  placed_at kind.FunctionResult o s = λ h e. let z : ◌≡◌ {A = ℕ} 0 1 = cc in absurd (omega arith)
-  placed_at kind.LocalVariable None s = let z : ◌≡◌ {A = ℕ} 0 1 = cc in absurd (omega arith)
+  placed_at kind.EntryPoint (Some body_kind.Function) s = absurd cc
+  placed_at kind.EntryPoint (Some body_kind.EntryPoint) s = absurd cc
+  placed_at kind.FunctionArgument o s = λ h e. absurd cc
+  placed_at kind.FunctionResult o s = λ h e. absurd cc
+  placed_at kind.LocalVariable None s = absurd cc
   placed_at kind.LocalVariable (Some body_kind.Function) s = λ h e. local_last m.functions b new
   placed_at kind.LocalVariable (Some body_kind.EntryPoint) s = λ h e. local_last m.entries b new
   placed_at (kind.Type t) o s = λ h e. nth_push m.types new
-  placed_at kind.Named o s = λ h e. let z : ◌≡◌ {A = ℕ} 0 1 = cc in absurd (omega arith)
-  placed_at kind.EndFunction o s = λ h e. let z : ◌≡◌ {A = ℕ} 0 1 = cc in absurd (omega arith)
+  placed_at kind.Named o s = λ h e. absurd cc
+  placed_at kind.EndFunction o s = λ h e. absurd cc
   placed_at (kind.Expression e) None s = λ h is. nth_push m.expressions new
   placed_at (kind.Expression e) (Some body_kind.Function) s = λ h is. inner_last m.functions b new
   placed_at (kind.Expression e) (Some body_kind.EntryPoint) s = λ h is. inner_last m.entries b new
-  placed_at (kind.Statement c) o s = λ h e. let z : ◌≡◌ {A = ℕ} 0 1 = cc in absurd (omega arith)
-  placed_at kind.End o s = λ h e. let z : ◌≡◌ {A = ℕ} 0 1 = cc in absurd (omega arith)
-  placed_at kind.EndLoop o s = λ h e. let z : ◌≡◌ {A = ℕ} 0 1 = cc in absurd (omega arith)
-  placed_at kind.Case o s = λ h e. let z : ◌≡◌ {A = ℕ} 0 1 = cc in absurd (omega arith)
-  placed_at kind.EndSwitch o s = λ h e. let z : ◌≡◌ {A = ℕ} 0 1 = cc in absurd (omega arith)
+  placed_at (kind.Statement c) o s = λ h e. absurd cc
+  placed_at kind.End o s = λ h e. absurd cc
+  placed_at kind.EndLoop o s = λ h e. absurd cc
+  placed_at kind.Case o s = λ h e. absurd cc
+  placed_at kind.EndSwitch o s = λ h e. absurd cc
 
-pub home_has : (s : State) (r : Record) (k : Kind) → Admits s r k → (h : Handle) → answered (table_of s k) (number_of_next (table_of s k) s) ≡ answer.Item h
+pub home_has : (s : State) (r : Record) (k : Kind) → Admits s r k → (h : Handle) → answered (table_of s k) (number_of_next (table_of s k) s) ≡ Some h
     → slice_get (items_in (home_of s k) (handle_table h) (stepped k r s)) (number_of_next (table_of s k) s) ≡ Some (item_of s r)
 home_has s r k a h e =
     subst

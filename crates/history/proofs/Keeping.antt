@@ -11,7 +11,7 @@ use Rattle.arena.specs.Viewing.{body_items, items_in}
 
 module _ {X : Type 0} where
   pub nth_front : (xs ys : List X) (n : ℕ) (x : X) → slice_get xs n ≡ Some x → slice_get (xs ++ ys) n ≡ Some x
-  nth_front [] ys n x e = let z : ◌≡◌ {A = ℕ} 0 1 = cc in absurd (omega arith)
+  nth_front [] ys n x e = absurd cc
   nth_front (y ∷ xs) ys zero x e = e
   nth_front (y ∷ xs) ys (suc n) x e = nth_front xs ys n x e
 
@@ -21,12 +21,12 @@ module _ {X : Type 0} where
 
 module _ {X Y : Type 0} (f : X → Y) where
   pub nth_map : (xs : List X) (n : ℕ) (x : X) → slice_get xs n ≡ Some x → slice_get (map f xs) n ≡ Some (f x)
-  nth_map [] n x e = let z : ◌≡◌ {A = ℕ} 0 1 = cc in absurd (omega arith)
+  nth_map [] n x e = absurd cc
   nth_map (y ∷ xs) zero x e = let same : y ≡ x = cc in ap (λ z. Some (f z)) same
   nth_map (y ∷ xs) (suc n) x e = nth_map xs n x e
 
   map_nth : (xs : List X) (n : ℕ) (y : Y) → slice_get (map f xs) n ≡ Some y → (x : X) × (slice_get xs n ≡ Some x) × (f x ≡ y)
-  map_nth [] n y e = let z : ◌≡◌ {A = ℕ} 0 1 = cc in absurd (omega arith)
+  map_nth [] n y e = absurd cc
   map_nth (x ∷ xs) zero y e = (x, refl, cc)
   map_nth (x ∷ xs) (suc n) y e = map_nth xs n y e
 
@@ -70,7 +70,7 @@ bodies_front xs ys n b e = (b, nth_front xs ys n b e, parts_same (parts_of b))
 
 pub bodies_last : (xs : List Body) (b c : Body) → BodyOn b c → BodiesOn (xs ++ b ∷ []) (xs ++ c ∷ [])
 bodies_last [] b c on zero d e = let same : b ≡ d = cc in (c, refl, subst (λ x. BodyOn x c) same on)
-bodies_last [] b c on (suc n) d e = let z : ◌≡◌ {A = ℕ} 0 1 = cc in absurd (omega arith)
+bodies_last [] b c on (suc n) d e = absurd cc
 bodies_last (x ∷ xs) b c on zero d e = (d, e, parts_same (parts_of d))
 bodies_last (x ∷ xs) b c on (suc n) d e = bodies_last xs b c on n d e
 
@@ -92,7 +92,7 @@ body_keeps handles.Filters b c on = keeps_same []
 body_keeps handles.EntryPoints b c on = keeps_same []
 
 any_body_keeps : (t : Table) (p q : Option Body) → ((b : Body) → p ≡ Some b → (c : Body) × (q ≡ Some c) × BodyOn b c) → Keeps (body_items t p) (body_items t q)
-any_body_keeps t None q on = λ n x e. let z : ◌≡◌ {A = ℕ} 0 1 = cc in absurd (omega arith)
+any_body_keeps t None q on = λ n x e. absurd cc
 any_body_keeps t (Some b) q on = let c = on b refl in subst (λ y. Keeps (body_items t (Some b)) (body_items t y)) (sym c.1) (body_keeps t b c.0 c.2)
 
 -- the numbered tables of a module that have items and not bodies

@@ -8,8 +8,8 @@ use Rattle.history.proofs.Keeping.{Keeps}
 
 -- what is known stays so
 pub known_stays : (k : ℕ) (xs ys : List Item) (i : Item) (n : ℕ) → Keeps xs ys → known_from k xs i ≡ Some n → known_from k ys i ≡ Some n
-known_stays k [] ys i n on e = let z : ◌≡◌ {A = ℕ} 0 1 = cc in absurd (omega arith)
-known_stays k (x ∷ xs) [] i n on e = let bad : None ≡ Some x = on 0 x refl in let z : ◌≡◌ {A = ℕ} 0 1 = cc in absurd (omega arith)
+known_stays k [] ys i n on e = absurd cc
+known_stays k (x ∷ xs) [] i n on e = let bad : None ≡ Some x = on 0 x refl in absurd cc
 known_stays k (x ∷ xs) (y ∷ ys) i n on e =
     let first : Some y ≡ Some x = on 0 x refl in
     let same : equal_items y i ≡ equal_items x i = cc in
@@ -20,20 +20,20 @@ known_stays k (x ∷ xs) (y ∷ ys) i n on e =
 
 -- what is not known is once an equal item comes next
 pub known_next : (k : ℕ) (xs ys : List Item) (x i : Item) → Keeps xs ys → slice_get ys (length xs) ≡ Some x → equal_items x i ≡ true → known_from k xs i ≡ None → known_from k ys i ≡ Some (k + length xs)
-known_next k [] [] x i on at same e = let z : ◌≡◌ {A = ℕ} 0 1 = cc in absurd (omega arith)
+known_next k [] [] x i on at same e = absurd cc
 known_next k [] (y ∷ ys) x i on at same e = let first : equal_items y i ≡ equal_items x i = cc in cond-true _ _ _ (first ∙ same) ∙ (let z : k ≡ k + 0 = omega arith in ap Some z)
-known_next k (w ∷ xs) [] x i on at same e = let bad : None ≡ Some w = on 0 w refl in let z : ◌≡◌ {A = ℕ} 0 1 = cc in absurd (omega arith)
+known_next k (w ∷ xs) [] x i on at same e = let bad : None ≡ Some w = on 0 w refl in absurd cc
 known_next k (w ∷ xs) (y ∷ ys) x i on at same e =
     let first : Some y ≡ Some w = on 0 w refl in
     let like : equal_items y i ≡ equal_items w i = cc in
     ⊎_elim
-    (λ here. let bad : Some k ≡ None = sym (cond-true _ _ _ here) ∙ e in let z : ◌≡◌ {A = ℕ} 0 1 = cc in absurd (omega arith))
+    (λ here. let bad : Some k ≡ None = sym (cond-true _ _ _ here) ∙ e in absurd cc)
     (λ apart. cond-false _ _ _ (like ∙ apart) ∙ known_next (k + 1) xs ys x i (λ p. on (suc p)) at same (sym (cond-false _ _ _ apart) ∙ e) ∙ (let z : k + 1 + length xs ≡ k + suc (length xs) = omega arith in ap Some z))
     (cases_Bool (equal_items w i))
 
 -- a known number is that of an equal item
 pub known_names : (k : ℕ) (xs : List Item) (i : Item) (n : ℕ) → known_from k xs i ≡ Some n → (p : ℕ) × (x : Item) × (n ≡ k + p) × (slice_get xs p ≡ Some x) × (equal_items x i ≡ true)
-known_names k [] i n e = let z : ◌≡◌ {A = ℕ} 0 1 = cc in absurd (omega arith)
+known_names k [] i n e = absurd cc
 known_names k (x ∷ xs) i n e =
     ⊎_elim
     (λ same. let w : Some k ≡ Some n = sym (cond-true _ _ _ same) ∙ e in let v : k ≡ n = cc in (0, x, (let z : n ≡ k + 0 = omega arith in z), refl, same))

@@ -1,5 +1,5 @@
 -- One call more of a list of calls.
-use Rattle.std.proofs.Common.{◌≡◌, ℕ, suc, ◌+◌, ◌<◌, List, [], ◌∷◌, ◌++◌, map, length, get_or, take, drop, set, sym, refl, ap, ◌∙◌, subst, append_assoc, arith}
+use Rattle.std.proofs.Common.{◌≡◌, ℕ, suc, ◌+◌, ◌<◌, List, [], ◌∷◌, ◌++◌, map, length, get_or, take, drop, set, Some, Option, sym, refl, ap, ◌∙◌, subst, append_assoc, arith}
 use Rattle.std.proofs.lemmas.List.{take_more, drop_more, set_at, map-append, length-map, length-take-le}
 use Rattle.std.proofs.lemmas.List.Sums.{fold_push}
 use Rattle.ir.specs.declared.handle.Handle.TheVariants as handle
@@ -18,9 +18,9 @@ puts_more : (calls : List Call) (i : ℕ) (d : Call) → i < length calls → ma
 puts_more calls i d l = ap (map record_of) (take_more calls i d l) ∙ map-append record_of (take i calls) (get_or calls i d ∷ [])
 
 module _ (room places : ℕ) where
-  outcomes_push : (m xs : List Record) (r : Record) → outcomes room places m (xs ++ r ∷ []) ≡ outcomes room places m xs ++ outcome.Put (put_def room places (run room places m xs) r).0 ∷ []
+  outcomes_push : (m xs : List Record) (r : Record) → outcomes room places m (xs ++ r ∷ []) ≡ outcomes room places m xs ++ Some (outcome.Put (put_def room places (run room places m xs) r).0) ∷ []
   outcomes_push m [] r = refl
-  outcomes_push m (x ∷ xs) r = ap (λ l. outcome.Put (put_def room places m x).0 ∷ l) (outcomes_push (put_kept room places m x) xs r)
+  outcomes_push m (x ∷ xs) r = ap (λ l. Some (outcome.Put (put_def room places m x).0) ∷ l) (outcomes_push (put_kept room places m x) xs r)
 
   length_outcomes : (m xs : List Record) → length (outcomes room places m xs) ≡ length xs
   length_outcomes m [] = refl
@@ -35,18 +35,18 @@ module _ (room places : ℕ) where
 
   -- and the answers
   pub answers_more : (calls : List Call) (i : ℕ) (d : Call) → i < length calls → (room' places' : ℕ) → room' ≡ room → places' ≡ places → (m : List Record) → m ≡ run room places [] (map record_of (take i calls))
-      → (first now : List Outcome) → now ≡ outcomes room places [] (map record_of (take i calls)) ++ drop i first → i < length first → (e : Outcome)
-      → (x : Outcome) → x ≡ outcome.Put (put_def room' places' m (record_of (get_or calls i d))).0
+      → (first now : List (Option Outcome)) → now ≡ outcomes room places [] (map record_of (take i calls)) ++ drop i first → i < length first → (e : Option Outcome)
+      → (x : Option Outcome) → x ≡ Some (outcome.Put (put_def room' places' m (record_of (get_or calls i d))).0)
       → set now i x ≡ outcomes room places [] (map record_of (take (i + 1) calls)) ++ drop (i + 1) first
   answers_more calls i d l room' places' same same' m m_is first now now_is l' e x x_is =
       let puts = map record_of (take i calls) in
       let r = record_of (get_or calls i d) in
       let long : length (outcomes room places [] puts) ≡ i = length_outcomes [] puts ∙ length-map (take i calls) record_of ∙ length-take-le i calls (omega arith) in
-      let answer : x ≡ outcome.Put (put_def room places (run room places [] puts) r).0 = x_is ∙ ap (λ n. outcome.Put (put_def n places' m r).0) same ∙ ap (λ n. outcome.Put (put_def room n m r).0) same' ∙ ap (λ y. outcome.Put (put_def room places y r).0) m_is in
+      let answer : x ≡ Some (outcome.Put (put_def room places (run room places [] puts) r).0) = x_is ∙ ap (λ n. Some (outcome.Put (put_def n places' m r).0)) same ∙ ap (λ n. Some (outcome.Put (put_def room n m r).0)) same' ∙ ap (λ y. Some (outcome.Put (put_def room places y r).0)) m_is in
       ap (λ a. set a i x) (now_is ∙ ap (λ rest. outcomes room places [] puts ++ rest) (drop_more first i e l'))
       ∙ set_at (outcomes room places [] puts) (get_or first i e) (drop (i + 1) first) x i long
       ∙ ap (λ y. outcomes room places [] puts ++ (y ∷ drop (i + 1) first)) answer
-      ∙ sym (append_assoc (outcomes room places [] puts) (outcome.Put (put_def room places (run room places [] puts) r).0 ∷ []) (drop (i + 1) first))
+      ∙ sym (append_assoc (outcomes room places [] puts) (Some (outcome.Put (put_def room places (run room places [] puts) r).0) ∷ []) (drop (i + 1) first))
       ∙ ap (λ os. os ++ drop (i + 1) first) (sym (ap (outcomes room places []) (puts_more calls i d l) ∙ outcomes_push [] puts r))
 
   run_append : (m xs ys : List Record) → run room places m (xs ++ ys) ≡ run room places (run room places m xs) ys

@@ -1,5 +1,5 @@
 -- The law over lists of puts, from three cases of put and from what one record more does.
-use Rattle.std.proofs.Common.{◌≡◌, ℕ, ◌+◌, ◌-◌, ◌⊎◌, List, [], ◌∷◌, ◌++◌, length, take, is_ok, Some, None, Ok, Err, Option, Result, sym, refl, ap, ◌∙◌, subst, inl, inr, ⊎_elim, arith}
+use Rattle.std.proofs.Common.{◌≡◌, ℕ, ◌+◌, ◌-◌, List, [], ◌∷◌, ◌++◌, length, take, is_ok, Some, None, Ok, Err, Option, Result, sym, refl, ap, ◌∙◌, subst, ⊎_elim, arith}
 use Rattle.std.specs.List.{slice_get}
 use Rattle.std.proofs.lemmas.Bool.{cond-true, cond-false, cases_Bool}
 use Rattle.ir.specs.declared.handle.Handle.{Handle}
@@ -20,13 +20,12 @@ use Rattle.draft.specs.State.{State, start, stepped, state, item_of, number_of_n
 use Rattle.draft.specs.Admitted.{admitted, Accepted}
 use Rattle.draft.proofs.Stepping.{admits, step_is, state_push, accepted_more, accepted_front}
 use Rattle.draft.proofs.Fronts.{fronted_so, front_is, bare}
-use Rattle.arena.specs.declared.answer.Answer.{Answer}
-use Rattle.arena.specs.declared.answer.Answer.TheVariants as answer
 use Rattle.arena.specs.declared.view.Home.{Home}
 use Rattle.arena.specs.declared.view.Home.TheVariants as home
-use Rattle.arena.specs.Answer.{answered, answer_number}
+use Rattle.arena.specs.Answer.{Answer, answered, answer_number}
 use Rattle.arena.specs.Put.{known_from, known, fits, added, put_def}
 use Rattle.arena.specs.Viewing.{items_in}
+use Rattle.arena.proofs.Tables.{is_or_other}
 use Rattle.arena.proofs.Putting.{put_refused, put_type, put_new, put_other}
 use Rattle.arena.proofs.Blocks.{equal_parts, equal_from}
 use Rattle.history.specs.Homes.{home_in, home_of}
@@ -36,9 +35,9 @@ use Rattle.history.proofs.Growing.{step_on, answer_table, home_has}
 use Rattle.history.proofs.Knowing.{known_stays, known_next, known_names, known_like}
 
 -- the number of a handle is the one that was answered
-answered_index : (t : SlotTable) (n : ℕ) (h : Handle) → answered t n ≡ answer.Item h → n ≡ index_of h
-answered_index table.Unnumbered n h e = let z : ◌≡◌ {A = ℕ} 0 1 = cc in absurd (omega arith)
-answered_index table.Taken n h e = let z : ◌≡◌ {A = ℕ} 0 1 = cc in absurd (omega arith)
+answered_index : (t : SlotTable) (n : ℕ) (h : Handle) → answered t n ≡ Some h → n ≡ index_of h
+answered_index table.Unnumbered n h e = absurd cc
+answered_index table.Taken n h e = absurd cc
 answered_index table.Types n h e = ap answer_number e
 answered_index table.Overrides n h e = ap answer_number e
 answered_index table.Constants n h e = ap answer_number e
@@ -51,35 +50,21 @@ answered_index table.LocalVariables n h e = ap answer_number e
 answered_index table.LocalExpressions n h e = ap answer_number e
 
 -- only of the types is a type's handle
-answered_type : (o : Option BodyKind) (t : SlotTable) (n : ℕ) (h : TypeHandle) → answered (table_in o t) n ≡ answer.Item (handle.Type h) → t ≡ table.Types
-answered_type o table.Unnumbered n h e = let z : ◌≡◌ {A = ℕ} 0 1 = cc in absurd (omega arith)
-answered_type o table.Taken n h e = let z : ◌≡◌ {A = ℕ} 0 1 = cc in absurd (omega arith)
+answered_type : (o : Option BodyKind) (t : SlotTable) (n : ℕ) (h : TypeHandle) → answered (table_in o t) n ≡ Some (handle.Type h) → t ≡ table.Types
+answered_type o table.Unnumbered n h e = absurd cc
+answered_type o table.Taken n h e = absurd cc
 answered_type o table.Types n h e = refl
-answered_type o table.Overrides n h e = let z : ◌≡◌ {A = ℕ} 0 1 = cc in absurd (omega arith)
-answered_type o table.Constants n h e = let z : ◌≡◌ {A = ℕ} 0 1 = cc in absurd (omega arith)
-answered_type o table.GlobalVariables n h e = let z : ◌≡◌ {A = ℕ} 0 1 = cc in absurd (omega arith)
-answered_type o table.Filters n h e = let z : ◌≡◌ {A = ℕ} 0 1 = cc in absurd (omega arith)
-answered_type None table.Expressions n h e = let z : ◌≡◌ {A = ℕ} 0 1 = cc in absurd (omega arith)
-answered_type (Some body_kind.Function) table.Expressions n h e = let z : ◌≡◌ {A = ℕ} 0 1 = cc in absurd (omega arith)
-answered_type (Some body_kind.EntryPoint) table.Expressions n h e = let z : ◌≡◌ {A = ℕ} 0 1 = cc in absurd (omega arith)
-answered_type o table.Functions n h e = let z : ◌≡◌ {A = ℕ} 0 1 = cc in absurd (omega arith)
-answered_type o table.EntryPoints n h e = let z : ◌≡◌ {A = ℕ} 0 1 = cc in absurd (omega arith)
-answered_type o table.LocalVariables n h e = let z : ◌≡◌ {A = ℕ} 0 1 = cc in absurd (omega arith)
-answered_type o table.LocalExpressions n h e = let z : ◌≡◌ {A = ℕ} 0 1 = cc in absurd (omega arith)
-
-types_or_other : (t : SlotTable) → (t ≡ table.Types) ⊎ (t ≡ table.Types → ⊥)
-types_or_other table.Unnumbered = inr (λ e. let z : ◌≡◌ {A = ℕ} 0 1 = cc in omega arith)
-types_or_other table.Taken = inr (λ e. let z : ◌≡◌ {A = ℕ} 0 1 = cc in omega arith)
-types_or_other table.Types = inl refl
-types_or_other table.Overrides = inr (λ e. let z : ◌≡◌ {A = ℕ} 0 1 = cc in omega arith)
-types_or_other table.Constants = inr (λ e. let z : ◌≡◌ {A = ℕ} 0 1 = cc in omega arith)
-types_or_other table.GlobalVariables = inr (λ e. let z : ◌≡◌ {A = ℕ} 0 1 = cc in omega arith)
-types_or_other table.Filters = inr (λ e. let z : ◌≡◌ {A = ℕ} 0 1 = cc in omega arith)
-types_or_other table.Expressions = inr (λ e. let z : ◌≡◌ {A = ℕ} 0 1 = cc in omega arith)
-types_or_other table.Functions = inr (λ e. let z : ◌≡◌ {A = ℕ} 0 1 = cc in omega arith)
-types_or_other table.EntryPoints = inr (λ e. let z : ◌≡◌ {A = ℕ} 0 1 = cc in omega arith)
-types_or_other table.LocalVariables = inr (λ e. let z : ◌≡◌ {A = ℕ} 0 1 = cc in omega arith)
-types_or_other table.LocalExpressions = inr (λ e. let z : ◌≡◌ {A = ℕ} 0 1 = cc in omega arith)
+answered_type o table.Overrides n h e = absurd cc
+answered_type o table.Constants n h e = absurd cc
+answered_type o table.GlobalVariables n h e = absurd cc
+answered_type o table.Filters n h e = absurd cc
+answered_type None table.Expressions n h e = absurd cc
+answered_type (Some body_kind.Function) table.Expressions n h e = absurd cc
+answered_type (Some body_kind.EntryPoint) table.Expressions n h e = absurd cc
+answered_type o table.Functions n h e = absurd cc
+answered_type o table.EntryPoints n h e = absurd cc
+answered_type o table.LocalVariables n h e = absurd cc
+answered_type o table.LocalExpressions n h e = absurd cc
 
 bare_on : (s : State) (front : List Record) → StateOn s (bare s front)
 bare_on s front = record { tables = tables_same (tables_of s.built); functions = bodies_same (functions_now s.opened s.built s.body); entries = bodies_same (entries_now s.opened s.built s.body) }
@@ -142,7 +127,7 @@ module _ (room places : ℕ) where
     typed_case typed None e = added_case (λ _. e) (put_new room places m r k ad typed e)
 
     put_case : PutCase m r k
-    put_case = ⊎_elim (λ typed. typed_case typed (known (state m) r) refl) (λ other. added_case (λ typed. absurd (other typed)) (put_other room places m r k ad other)) (types_or_other (manner_of k).table)
+    put_case = ⊎_elim (λ typed. typed_case typed (known (state m) r) refl) (λ other. added_case (λ typed. absurd (other typed)) (put_other room places m r k ad other)) (is_or_other table.Types (manner_of k).table)
 
     case_on : Accepted start m → PutCase m r k → RunOn m (put_kept room places m r)
     case_on a (refuses is) = same_on m (put_kept room places m r) a (ap (λ p. p.1) is)
@@ -171,11 +156,11 @@ module _ (room places : ℕ) where
     abbrev there : Home
     there = home_of (state m) k
 
-    answer_is : (b : Answer) (m' : List Record) → put_def room places m r ≡ (Ok b, m') → b ≡ answer.Item h
-    answer_is b m' is = let same : Ok b ≡ Ok (answer.Item h) = sym (ap (λ p. p.0) is) ∙ x.answers in cc
+    answer_is : (b : Answer) (m' : List Record) → put_def room places m r ≡ (Ok b, m') → b ≡ Some h
+    answer_is b m' is = let same : Ok b ≡ Ok (Some h) = sym (ap (λ p. p.0) is) ∙ x.answers in cc
 
     not_full : {P : Type 0} → put_def room places m r ≡ (Err Full, m) → P
-    not_full is = let bad : Err Full ≡ Ok (answer.Item h) = sym (ap (λ p. p.0) is) ∙ x.answers in let z : ◌≡◌ {A = ℕ} 0 1 = cc in absurd (omega arith)
+    not_full is = let bad : Err Full ≡ Ok (Some h) = sym (ap (λ p. p.0) is) ∙ x.answers in absurd cc
 
     case_now : PutCase m r k
     case_now = put_case m r k x.admits
@@ -234,7 +219,7 @@ module _ (room places : ℕ) where
         let same : Some o ≡ Some p = sym kn ∙ kn' in
         let number : p ≡ n.index = answered_index table.Types p (handle.Type n) (answer_is m r k (handle.Type n) a x _ _ is) in
         cc
-    answers_known o kn (keeps new is) = let bad : Some o ≡ None = sym kn ∙ new typed_so in let z : ◌≡◌ {A = ℕ} 0 1 = cc in absurd (omega arith)
+    answers_known o kn (keeps new is) = let bad : Some o ≡ None = sym kn ∙ new typed_so in absurd cc
 
   -- two puts that answered a type each, the one before the other
   module _ (m : List Record) (r : Record) (k : Kind) (n : TypeHandle) (between : List Record) (q : Record) (l : Kind) (o : TypeHandle) (a : Accepted start m) (x : Numbered room places m r k (handle.Type n)) (y : Numbered room places (run room places (put_kept room places m r) between) q l (handle.Type o)) where

@@ -1,5 +1,5 @@
 -- Lists of calls.
-use Rattle.std.specs.Prelude.{◌≡◌, ℕ, min, List, [], ◌∷◌, ◌++◌, map, length, take, drop}
+use Rattle.std.specs.Prelude.{◌≡◌, ℕ, min, List, [], ◌∷◌, ◌++◌, map, length, take, drop, Some, Option}
 use Rattle.rules.specs.Module.{Record}
 use Rattle.arena.specs.declared.Draft.{Draft}
 use Rattle.arena.specs.declared.slot.Slot.{Slot}
@@ -18,20 +18,20 @@ record_of (call.Put r) = r.now
 
 -- what puts answer, one after the other, on a draft that has kept these
 module _ (room places : ℕ) where
-  abbrev pub outcomes : List Record → List Record → List Outcome
+  abbrev pub outcomes : List Record → List Record → List (Option Outcome)
   outcomes m [] = []
-  outcomes m (r ∷ rs) = outcome.Put (put_def room places m r).0 ∷ outcomes (put_kept room places m r) rs
+  outcomes m (r ∷ rs) = Some (outcome.Put (put_def room places m r).0) ∷ outcomes (put_kept room places m r) rs
 
 -- how many calls are made: no more than there are places for their answers
-abbrev pub made : List Call → List Outcome → ℕ
+abbrev pub made : List Call → List (Option Outcome) → ℕ
 made calls answers = min (length calls) (length answers)
 
 -- the records that are put
-abbrev pub put_by : List Call → List Outcome → List Record
+abbrev pub put_by : List Call → List (Option Outcome) → List Record
 put_by calls answers = map record_of (take (made calls answers) calls)
 
 -- a list of calls, made one after the other on a new draft over this memory
-pub record Replayed (calls : List Call) (answers : List Outcome) (bytes : List ℕ) (slots : List Slot) (d : Draft) (answers' : List Outcome) (bytes' : List ℕ) (slots' : List Slot) : Type 0 where
+pub record Replayed (calls : List Call) (answers : List (Option Outcome)) (bytes : List ℕ) (slots : List Slot) (d : Draft) (answers' : List (Option Outcome)) (bytes' : List ℕ) (slots' : List Slot) : Type 0 where
   pub stands : Stands d bytes' slots'
   -- each answer is the defined one, and places beyond the calls are as they were
   pub answered : answers' ≡ outcomes (length bytes) (length slots) [] (put_by calls answers) ++ drop (made calls answers) answers

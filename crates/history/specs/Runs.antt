@@ -9,7 +9,6 @@ use Rattle.ir.specs.Handle.{TypeHandle, index_of, table_of as handle_table}
 use Rattle.rules.specs.Module.{Record, Item}
 use Rattle.draft.specs.State.{State, state}
 use Rattle.draft.specs.Admitted.{admitted}
-use Rattle.arena.specs.declared.answer.Answer.TheVariants as answer
 use Rattle.arena.specs.declared.view.Home.{Home}
 use Rattle.arena.specs.Put.{put_def}
 use Rattle.arena.specs.Viewing.{items_in}
@@ -26,7 +25,7 @@ module _ (room places : ℕ) where
   -- put admits the record as one of this kind, and answers this item
   pub record Numbered (m : List Record) (r : Record) (k : Kind) (h : Handle) : Type 0 where
     pub admits : admitted (state m) r ≡ Ok k
-    pub answers : (put_def room places m r).0 ≡ Ok (answer.Item h)
+    pub answers : (put_def room places m r).0 ≡ Ok (Some h)
 
 -- this number names, in that table, an item with these bytes that took these records
 pub record Names (h : Home) (t : Table) (s : State) (n : ℕ) (r : Record) (taken : List Record) : Type 0 where

@@ -1,6 +1,6 @@
 //! Calls on a draft, and what they answer.
-use arena::answer::Answer;
 use draft::refusal::Refusal;
+use ir::handle::Handle;
 
 /// A call on a draft.
 #[derive(Clone, Copy)]
@@ -11,7 +11,5 @@ pub enum Call<'a> {
 /// What a call answered.
 #[derive(Clone, Copy)]
 pub enum Outcome {
-    /// It was not made.
-    None,
-    Put(Result<Answer, Refusal>),
+    Put(Result<Option<Handle>, Refusal>),
 }

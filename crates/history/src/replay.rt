@@ -11,6 +11,7 @@ use arena::Draft;
 use arena::slot::Slot;
 
 /// Makes one call.
+// Put is lent its memory on each call, so draft, bytes and slots are parameters here too.
 fn make(call: Call<'_>, draft: &mut Draft, bytes: &mut [u8], slots: &mut [Slot]) -> Outcome
     requires { Stands draft.old bytes.old slots.old }
     ensures stands { Stands draft.new bytes.new slots.new }
@@ -23,19 +24,20 @@ fn make(call: Call<'_>, draft: &mut Draft, bytes: &mut [u8], slots: &mut [Slot])
 }
 
 /// Makes the calls of a list, one after the other, on a new draft in memory that holds anything: as
-/// many as there are places for what they answer.
+/// many as there are places for what they answer; the places beyond stay as they are.
 pub fn replay(
     calls: &[Call<'_>],
-    answers: &mut [Outcome],
+    answers: &mut [Option<Outcome>],
     bytes: &mut [u8],
     slots: &mut [Slot],
 ) -> Draft
     ensures { Replayed calls.now answers.old bytes.old slots.old result answers.new bytes.new slots.new }
 {
     let mut draft = Draft::new();
-    let made = calls.len().min(answers.len());
-    for place in 0..made {
-        answers[place] = make(calls[place], &mut draft, bytes, slots);
+    let made = &calls[..calls.len().min(answers.len())];
+    for (place, call) in made.iter().enumerate() {
+        // By index: nothing is known of the elements that `iter_mut` has given out.
+        answers[place] = Some(make(*call, &mut draft, bytes, slots));
     }
     draft
 }

@@ -157,6 +157,7 @@ fn total_width(fields: &[Field]) -> usize
 
 impl Kind {
     /// The fields of the body, in order.
+    // `short` stands in each of the four contracts: a type around the slice would be opened at every use.
     pub fn layout(self) -> &'static [Field]
         ensures fields { result.now ≡ layout self }
         ensures short { length result.now ≤ 11 }

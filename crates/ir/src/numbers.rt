@@ -86,6 +86,7 @@ impl From<Kind> for u8 {
 
 impl Kind {
     /// Its number: the only byte of which `try_from` makes it.
+    // Beside `u8::from`, because it also promises that no other byte is a number of the kind.
     pub fn number(self) -> u8
         ensures value { result ≡ number_of self }
         ensures found { kind_of result ≡ Some self }

@@ -1,34 +1,23 @@
 -- Items place by place.
-use Rattle.std.proofs.Common.{◌≡◌, ℕ, zero, suc, ◌+◌, ◌-◌, ◌<◌, ◌≤◌, Bool, true, false, cond, List, [], ◌∷◌, ◌++◌, length, get_or, take, drop, Some, fold, sym, refl, ap, ◌∙◌, subst, ⊎_elim, append-nil, arith}
+use Rattle.std.proofs.Common.{◌≡◌, ℕ, zero, suc, ◌+◌, ◌-◌, ◌<◌, ◌≤◌, Bool, true, false, cond, List, [], ◌∷◌, ◌++◌, length, get_or, take, drop, Some, fold, sym, refl, ap, ◌∙◌, append-nil, arith}
 use Rattle.std.specs.List.{slice_get}
 use Rattle.std.proofs.lemmas.List.{at_drop_more, at_drop_all, get_or-take, length-take-le, length-take, drop-take, drop-drop, length_push}
 use Rattle.std.proofs.Math.Seq.{take-add}
 use Rattle.std.proofs.lemmas.List.Sums.{fold-append}
-use Rattle.std.proofs.lemmas.Option.{slice_get-get_or, slice_get_past as nth_past}
-use Rattle.std.proofs.lemmas.Bool.{cond-true, cond-false, cases_lt}
+use Rattle.std.proofs.lemmas.Option.{slice_get_within, get_or_from_slice_get}
+use Rattle.std.proofs.lemmas.Bool.{cond-true, cond-false}
 use Rattle.rules.specs.Module.{Record}
 use Rattle.draft.specs.State.{State, start, step, state, item_of}
 use Rattle.draft.specs.Admitted.{Accepted}
 use Rattle.draft.proofs.Stepping.{counted_so}
-use Rattle.draft.specs.declared.counts.Counts.{Counts}
 use Rattle.arena.specs.declared.slot.Slot.{Slot}
-use Rattle.arena.specs.Memory.{Holds, layout, slot_of}
-use Rattle.arena.proofs.Placing.{kept_is}
-use Rattle.arena.proofs.Scanning.{nth_slot}
 use Rattle.arena.proofs.Finding.{state_more}
 use Rattle.items.specs.declared.section.Section.{Section}
 use Rattle.items.specs.Sections.{chosen, selects}
 use Rattle.items.specs.Between.{EntryAt, item_at, gained, items_between}
 
--- a place at which there is a record is one of the list
-pub within : {X : Type 0} (m : List X) (x : ℕ) (r : X) → slice_get m x ≡ Some r → x < length m
-within m x r e = ⊎_elim (λ l. l) (λ l. let p = nth_past m x l in let z : ◌≡◌ {A = ℕ} 0 1 = cc in absurd (omega arith)) (cases_lt x (length m))
-
 within_next : {X : Type 0} (m : List X) (x : ℕ) (r : X) → slice_get m x ≡ Some r → x + 1 ≤ length m
-within_next m x r e = let l = within m x r e in omega arith
-
-pub here_is : (m : List Record) (x : ℕ) (r : Record) → slice_get m x ≡ Some r → get_or m x [] ≡ r
-here_is m x r e = let g = slice_get-get_or m x [] (within m x r e) in cc
+within_next m x r e = let l = slice_get_within m x r e in omega arith
 
 -- accepted records have accepted fronts
 pub front : (m : List Record) (x : ℕ) → Accepted start m → Accepted start (take x m)
@@ -46,7 +35,7 @@ kept_at m x a l = (counted_so (take x m) (front m x a)).kept_is ∙ length-take-
 
 -- the state after the record at a place
 pub state_next : (m : List Record) (x : ℕ) (r : Record) → slice_get m x ≡ Some r → state (take (x + 1) m) ≡ step (state (take x m)) r
-state_next m x r e = state_more m x (within m x r e) ∙ ap (step (state (take x m))) (here_is m x r e)
+state_next m x r e = state_more m x (slice_get_within m x r e) ∙ ap (step (state (take x m))) (get_or_from_slice_get m x r [] e)
 
 module _ (sec : Section) (m : List Record) (a : Accepted start m) (x to : ℕ) (r : Record) (e : slice_get m x ≡ Some r) (l : x < to) (t : to ≤ length m) where
   item_is : item_of (state (take x m)) r ≡ item_at m x r
@@ -56,7 +45,7 @@ module _ (sec : Section) (m : List Record) (a : Accepted start m) (x to : ℕ) (
   unfolding items_between
   split =
       let n = length-take-le to m t in
-      let g : get_or (take to m) x [] ≡ r = get_or-take to m x [] l ∙ here_is m x r e in
+      let g : get_or (take to m) x [] ≡ r = get_or-take to m x [] l ∙ get_or_from_slice_get m x r [] e in
       at_drop_more (gained sec (state (take x m))) (take to m) x [] (omega arith)
       ∙ ap (λ y. gained sec (state (take x m)) (y ∷ drop (x + 1) (take to m))) g
       ∙ ap (λ s. cond (selects sec (state (take x m)) r) (item_of (state (take x m)) r ∷ gained sec s (drop (x + 1) (take to m))) (gained sec s (drop (x + 1) (take to m)))) (sym (state_next m x r e))
@@ -128,7 +117,3 @@ module _ (sec : Section) (m : List Record) (a : Accepted start m) (from x : ℕ)
       let h = miss sec m a x (x + 1) r e (omega arith) (within_next m x r e) slot at c in
       let n = none_between sec m (x + 1) (x + 1) (omega arith) in
       ap length (p ∙ ap (λ l. items_between sec m from x ++ l) (h ∙ n)) ∙ ap length (append-nil (items_between sec m from x))
-
--- the slot at a place
-pub slot_there : {d : Counts} {bytes : List ℕ} {slots : List Slot} {m : List Record} → Holds d bytes slots m → (x : ℕ) → x < length m → slice_get (layout m) x ≡ Some (slot_of (state (take x m)) (get_or m x []))
-slot_there {d} {bytes} {slots} {m} h x l = nth_slot h x (subst (λ n. x < n) (sym (kept_is h)) l) (slot_of (state (take x m)) (get_or m x [])) refl

@@ -1,6 +1,6 @@
 //! The kept record at a place, with its slot.
 ghost use Rattle.std.specs.Prelude.{◌≡◌, ◌<◌, length};
-ghost use Rattle.arena.specs.Viewing.{Views, viewed};
+ghost use Rattle.arena.specs.Viewing.{viewed};
 ghost use Rattle.items.specs.Between.{EntryAt};
 
 use arena::slot::Slot;
@@ -16,16 +16,11 @@ pub struct Entry<'a> {
 
 /// The kept record at a place.
 pub fn entry_at<'a>(view: View<'a>, place: usize) -> Entry<'a>
-    requires views { Views view }
-    requires within { place < length (viewed view) }
+    requires { place < length (viewed view) }
     ensures { EntryAt (viewed view.entry) place result.slot result.«record».bytes.now }
 {
-    let Some(slot) = view.slot(place) else {
-        unreachable()
-    };
-    let Some(bytes) = view.record(place) else {
-        unreachable()
-    };
+    let slot = view.slot(place).unwrap();
+    let bytes = view.record(place).unwrap();
     Entry {
         slot,
         record: Record { bytes },

@@ -3,26 +3,25 @@ ghost use Rattle.std.specs.Prelude.{◌≡◌, ℕ, List, [], IfOk, vec_len};
 ghost use Rattle.std.proofs.Props.{props};
 ghost use Rattle.draft.specs.State.{state};
 ghost use Rattle.draft.specs.Counting.{counts_of};
-ghost use Rattle.arena.specs.Memory.{Stands, records};
+ghost use Rattle.arena.specs.Memory.{Stands, records, Accepted-prop};
 ghost use Rattle.arena.specs.Put.{put_def};
-ghost use Rattle.arena.specs.Viewing.{Views, viewed};
+ghost use Rattle.arena.specs.Viewing.{viewed};
 ghost use Rattle.owned.specs.Kept.{kept_in};
 ghost use Rattle.owned.specs.Putting.{put_all};
 ghost use Rattle.modseal.specs.Putting.{Put, PutOrFails};
-ghost use Rattle.modseal.specs.Standing.{Accepted-prop};
 
 use arena::Draft;
-use arena::answer::Answer;
 use arena::slot::Slot;
 use arena::view::View;
 use draft::counts::Counts;
 use draft::refusal::Refusal;
+use ir::handle::Handle;
 use owned::denial::Denial;
 use owned::owned::OwnedDraft;
 use std::alloc::{AllocError, Global};
 
-/// What a draft answers to a record: the item that it is, or why it is refused.
-pub type Outcome = Result<Answer, Refusal>;
+/// What a draft answers to a record: the item that it is, if it is numbered, or why it is refused.
+pub type Outcome = Result<Option<Handle>, Refusal>;
 
 /// A draft with its memory.
 pub trait AnyDraft {
@@ -42,8 +41,7 @@ pub trait AnyDraft {
 
     /// Its kept records.
     fn view(&self) -> View<'_>
-        ensures stands { Views result }
-        ensures keeps { viewed result ≡ kept self.now };
+        ensures { viewed result ≡ kept self.now };
 }
 
 /// A draft in memory that does not grow.
@@ -97,7 +95,7 @@ impl AnyDraft for OwnedDraft {
         match OwnedDraft::put(self, record) {
             Ok(answer) => Ok(Ok(answer)),
             Err(Denial::Refused(refusal)) => Ok(Err(refusal)),
-            Err(Denial::NoMemory) => Err(AllocError),
+            Err(Denial::NoMemory(error)) => Err(error),
         }
     }
 
@@ -109,5 +107,36 @@ impl AnyDraft for OwnedDraft {
     fn view(&self) -> View<'_> {
         let (draft, bytes, slots) = self.parts();
         draft.view(bytes, slots)
+    }
+}
+
+#[cfg(test)]
+mod tests {
+    use super::*;
+    use std::test::Fail;
+
+    const SCALAR: [u8; 9] = [16, 0, 0, 0, 0, 0, 0, 0, 0];
+
+    const OTHER: [u8; 9] = [16, 1, 0, 0, 0, 0, 0, 0, 0];
+
+    // Room for two records in bytes and for one in slots.
+    #[test]
+    fn memory_that_does_not_grow(rt: HostRuntime) -> Result<(), Fail> {
+        let mut draft = FixedDraft::new(rt.alloc(), 18, 1)?;
+        assert!(rt; draft.put(&SCALAR)?.is_ok());
+        assert!(rt; draft.put(&SCALAR)?.is_ok());
+        assert_eq!(rt; draft.put(&OTHER)?.err(), Some(Refusal::Full));
+        assert_eq!(rt; draft.counts().kept, 1);
+        assert_eq!(rt; draft.view().kept(), 1);
+        Ok(())
+    }
+
+    #[test]
+    fn memory_that_grows(rt: HostRuntime) -> Result<(), Fail> {
+        let mut draft = OwnedDraft::new(rt.alloc());
+        assert!(rt; AnyDraft::put(&mut draft, &SCALAR)?.is_ok());
+        assert!(rt; AnyDraft::put(&mut draft, &OTHER)?.is_ok());
+        assert_eq!(rt; draft.counts().kept, 2);
+        Ok(())
     }
 }

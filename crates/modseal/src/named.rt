@@ -1,6 +1,4 @@
 //! What each number names.
-ghost use Rattle.arena.specs.Viewing.{Views};
-
 use arena::view::View;
 use draft::state::SlotTable;
 use ir::kinds::Kind;
@@ -38,9 +36,7 @@ struct Name {
 
 impl Name {
     /// The number of the kept record at a place, if it has one.
-    fn at(view: View<'_>, place: usize) -> Option<Name>
-        requires { Views view }
-    {
+    fn at(view: View<'_>, place: usize) -> Option<Name> {
         let slot = view.slot(place)?;
         let bytes = view.record(place)?;
         let (kind, _) = (Record { bytes }).parts().ok()?;
@@ -67,13 +63,9 @@ impl Display for Name {
 
 /// What each number of each table names, in the order of the kept records: the numbers of a body
 /// follow the function or entry point that it belongs to.
-pub fn show_names<W: Write>(out: &mut W, view: View<'_>) -> io::Result<()>
-    requires { Views view }
-{
-    for place in 0..view.kept() {
-        if let Some(name) = Name::at(view, place) {
-            writeln!(out, "{name}")?;
-        }
+pub fn show_names<W: Write>(out: &mut W, view: View<'_>) -> io::Result<()> {
+    for name in (0..view.kept()).filter_map(|place| Name::at(view, place)) {
+        writeln!(out, "{name}")?;
     }
     Ok(())
 }

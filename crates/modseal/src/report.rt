@@ -2,7 +2,7 @@
 use crate::drafts::{AnyDraft, Outcome};
 use crate::named::show_names;
 use crate::show::{Fields, Totals};
-use arena::answer::Answer;
+use arena::answer::answered_number;
 use command::Options;
 use draft::refusal::Refusal;
 use records::image::{Record, Records};
@@ -54,7 +54,7 @@ impl Display for Plain<'_> {
         let Plain(entry) = self;
         write!(f, "record {} {} ", entry.index, entry.kind_byte())?;
         match entry.outcome {
-            Ok(answer) => write!(f, "{}", answer.number()),
+            Ok(answer) => write!(f, "{}", answered_number(answer)),
             Err(refusal) => write!(f, "refused {}", refusal.number()),
         }
     }
@@ -74,8 +74,8 @@ impl Display for Full<'_> {
             Err(_) => write!(f, "{}", entry.kind_byte())?,
         }
         match entry.outcome {
-            Ok(Answer::Item(handle)) => writeln!(f, " -> {handle}")?,
-            Ok(Answer::Unnumbered) => writeln!(f, " -> no number")?,
+            Ok(Some(handle)) => writeln!(f, " -> {handle}")?,
+            Ok(None) => writeln!(f, " -> no number")?,
             Err(refusal) => writeln!(f, " refused {}", Reason(refusal))?,
         }
         match (record.judge(), record.bytes) {

@@ -5,6 +5,7 @@ ghost use Rattle.ir.specs.Layout.{layout, type_layout, expression_layout, statem
 use ir::kinds::{Expression, Kind, Statement, TypeInner};
 
 /// The names of a kind's fields: as many as it has fields.
+// Beside the layout and not in it: names are for printing, and the definitions speak of fields alone.
 pub fn field_names(kind: Kind) -> &'static [&'static str]
     ensures { length result.now ≡ length (layout kind) }
 {

@@ -1,6 +1,5 @@
 -- Put depends on the memory only through whether there is enough.
-use Rattle.std.proofs.Common.{◌≡◌, ℕ, ◌+◌, ◌-◌, ◌<◌, ◌≤◌, Bool, true, false, cond, List, ◌++◌, length, take, replicate, is_ok, is_err, Some, None, Ok, Err, Option, Result, sym, refl, ap, ◌∙◌, append-nil, arith}
-use Rattle.std.proofs.lemmas.List.{take_all}
+use Rattle.std.proofs.Common.{◌≡◌, ℕ, ◌+◌, ◌<◌, ◌≤◌, true, List, length, is_ok, is_err, Some, None, Ok, Err, Option, Result, refl, arith}
 use Rattle.std.proofs.lemmas.Bool.Decides.{nat_tests}
 use Rattle.ir.specs.declared.kinds.Kind.{Kind}
 use Rattle.rules.specs.Module.{Record}
@@ -53,11 +52,6 @@ put_enough room places m r ok large many =
     let u = c.used_is in
     let k = c.kept_is in
     put_same room (length (image m) + length r) places (length m + 1) m r (λ t. room_same room (length (image m) + length r) places (length m + 1) (state m).used (state m).kept (length r) (number_of_next t (state m)) (omega arith) (omega arith) (omega arith) (omega arith))
-
--- a longer list is the list with copies of the filler behind it
-pub grown : {T : Type 0} (b : Bool) (n : ℕ) (xs ys : List T) (len more : ℕ) (x : T) → len ≡ length xs → len ≤ n → ys ≡ cond b (take n xs ++ replicate (n - len) x) xs → more ≡ cond b n len → ys ≡ xs ++ replicate (more - len) x
-grown true n xs ys len more x l h e f = e ∙ ap (λ l. l ++ replicate (n - len) x) (take_all n xs (omega arith)) ∙ ap (λ k. xs ++ replicate (k - len) x) (sym f)
-grown false n xs ys len more x l h e f = e ∙ sym (append-nil xs) ∙ ap (λ k. xs ++ replicate k x) (let z : 0 ≡ more - len = omega arith in z)
 
 pub not_both : {T E : Type 0} (r : Result T E) → is_ok r ≡ true → is_err r ≡ true → ⊥
 not_both (Ok x) a b = let z : ◌≡◌ {A = ℕ} 0 1 = cc in omega arith

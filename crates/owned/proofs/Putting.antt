@@ -6,7 +6,7 @@ use Rattle.rules.specs.Module.{Record}
 use Rattle.draft.specs.declared.refusal.Refusal.{Refusal}
 use Rattle.draft.specs.Admitted.{image}
 use Rattle.arena.specs.declared.Draft.{Draft}
-use Rattle.arena.specs.declared.answer.Answer.{Answer}
+use Rattle.arena.specs.Answer.{Answer}
 use Rattle.arena.specs.declared.slot.Slot.{Slot}
 use Rattle.arena.specs.Put.{put_def}
 use Rattle.arena.specs.Memory.{Stands, records, KeptAs}

@@ -11,7 +11,7 @@ pub enum Denial {
     /// The draft refuses it.
     Refused(Refusal),
     /// There is no more memory to be had.
-    NoMemory,
+    NoMemory(AllocError),
 }
 
 impl From<Refusal> for Denial {
@@ -23,9 +23,9 @@ impl From<Refusal> for Denial {
 }
 
 impl From<AllocError> for Denial {
-    ghost from_gives = { λ _ r. r ≡ NoMemory };
+    ghost from_gives = { λ e r. r ≡ NoMemory e };
 
-    fn from(_error: AllocError) -> Denial {
-        Denial::NoMemory
+    fn from(error: AllocError) -> Denial {
+        Denial::NoMemory(error)
     }
 }

@@ -6,16 +6,18 @@
 #![tactic(auto)]
 
 ghost use Rattle.arena.specs.Memory.{Stands};
-ghost use Rattle.arena.specs.Viewing.{Views};
 
 use arena::Draft;
+use arena::answer::answered_number;
 use arena::slot::Slot;
 use arena::view::{Home, View};
 use hexadecimal::decode;
 use ir::handle::Table;
 use std::alloc::Global;
-use std::io;
+use std::fmt::Display;
 use std::io::{BufRead, BufReader, BufWriter, Write};
+use std::str::SplitWhitespace;
+use std::{fmt, io};
 
 const HOMES: [Home; 4] = [
     Home::Module,
@@ -36,55 +38,52 @@ const TABLES: [Table; 9] = [
     Table::EntryPoints,
 ];
 
-fn show_position<W: Write>(out: &mut W, position: Option<usize>) -> io::Result<()> {
-    match position {
-        Some(place) => write!(out, ",{place}"),
-        None => write!(out, ",-"),
-    }
-}
-
 /// How many items a table has, and where the first, the second and the last stand.
-fn show_table<W: Write>(out: &mut W, view: View<'_>, home: Home, table: Table) -> io::Result<()>
-    requires { Views view }
-{
-    let count = view.count(home, table);
-    write!(out, " {count}")?;
-    let Ok(end) = u32::try_from(count) else {
-        return Ok(());
-    };
-    if end > 0 {
-        show_position(out, view.position(home, table, 0))?;
-        show_position(out, view.position(home, table, 1))?;
-        show_position(out, view.position(home, table, end - 1))?;
-        show_position(out, view.position(home, table, end))?;
-    }
-    Ok(())
+#[derive(Clone, Copy)]
+struct Lookups<'a> {
+    view: View<'a>,
+    home: Home,
+    table: Table,
 }
 
-fn show_home<W: Write>(out: &mut W, view: View<'_>, home: Home) -> io::Result<()>
-    requires { Views view }
-{
-    write!(out, " |")?;
-    for table in TABLES {
-        show_table(out, view, home, table)?;
+impl Display for Lookups<'_> {
+    fn fmt<W: fmt::Write>(&self, f: &mut fmt::Formatter<W>) -> fmt::Result {
+        let Lookups { view, home, table } = *self;
+        let count = view.count(home, table);
+        write!(f, " {count}")?;
+        let Ok(end) = u32::try_from(count) else {
+            return Ok(());
+        };
+        if end > 0 {
+            for number in [0, 1, end - 1, end] {
+                match view.position(home, table, number) {
+                    Some(place) => write!(f, ",{place}")?,
+                    None => write!(f, ",-")?,
+                }
+            }
+        }
+        Ok(())
     }
-    Ok(())
 }
 
-fn show_homes<'a, W: Write>(
-    out: &mut W,
-    draft: &'a Draft,
-    bytes: &'a [u8],
-    slots: &'a [Slot],
-) -> io::Result<()>
-    requires { Stands draft.now bytes.now slots.now }
-{
-    for home in HOMES {
-        show_home(out, draft.view(bytes, slots), home)?;
+/// The lookups in each table of each home.
+#[derive(Clone, Copy)]
+struct Homes<'a>(View<'a>);
+
+impl Display for Homes<'_> {
+    fn fmt<W: fmt::Write>(&self, f: &mut fmt::Formatter<W>) -> fmt::Result {
+        let view = self.0;
+        for home in HOMES {
+            write!(f, " |")?;
+            for table in TABLES {
+                write!(f, "{}", Lookups { view, home, table })?;
+            }
+        }
+        Ok(())
     }
-    writeln!(out)
 }
 
+// Put is lent its memory on each call, so draft, bytes and slots are parameters here too.
 fn put_word<W: Write>(
     out: &mut W,
     draft: &mut Draft,
@@ -96,41 +95,31 @@ fn put_word<W: Write>(
     ensures { Stands draft.new bytes.new slots.new }
 {
     match draft.put(bytes, slots, record) {
-        Ok(answer) => {
-            let number = answer.number();
-            write!(out, "{number} ")
-        }
-        Err(refusal) => {
-            let number = refusal.number();
-            write!(out, "r{number} ")
-        }
+        Ok(answer) => write!(out, "{} ", answered_number(answer)),
+        Err(refusal) => write!(out, "r{} ", refusal.number()),
     }
 }
 
 fn run_script<W: Write>(
     out: &mut W,
     heap: Global,
-    script: &str,
+    words: SplitWhitespace<'_>,
     bytes: &mut [u8],
     slots: &mut [Slot],
 ) -> io::Result<()> {
     let mut draft = Draft::new();
-    for word in script.split_whitespace().skip(2) {
+    for word in words {
         let record = decode(heap, word)?;
         put_word(out, &mut draft, bytes, slots, record.as_slice())?;
     }
     let counts = draft.counts();
-    let (kept, used) = (counts.kept, counts.used);
-    write!(out, "kept {kept} {used}")?;
-    show_homes(out, &draft, bytes, slots)
+    let homes = Homes(draft.view(bytes, slots));
+    writeln!(out, "kept {} {}{homes}", counts.kept, counts.used)
 }
 
-/// The number at a place among the words of a script.
-fn number_at(script: &str, place: usize) -> usize {
-    match script.split_whitespace().nth(place) {
-        Some(word) => word.parse::<usize>().unwrap_or(0),
-        None => 0,
-    }
+/// The number that a word of a script is.
+fn number(word: Option<&str>) -> usize {
+    word.and_then(|word| word.parse().ok()).unwrap_or(0)
 }
 
 fn main(rt: HostRuntime) -> io::Result<()> {
@@ -138,13 +127,13 @@ fn main(rt: HostRuntime) -> io::Result<()> {
     let mut out = BufWriter::new(heap, rt.stdout())?;
     for line in BufReader::new(heap, rt.stdin())?.lines(heap) {
         let line = line?;
-        let script = line.as_str();
-        let mut bytes = vec![in heap; 0u8; number_at(script, 0)]?;
-        let mut slots = vec![in heap; Slot::EMPTY; number_at(script, 1)]?;
+        let mut words = line.as_str().split_whitespace();
+        let mut bytes = vec![in heap; 0u8; number(words.next())]?;
+        let mut slots = vec![in heap; Slot::EMPTY; number(words.next())]?;
         run_script(
             &mut out,
             heap,
-            script,
+            words,
             bytes.as_mut_slice(),
             slots.as_mut_slice(),
         )?;

@@ -5,46 +5,54 @@
 use hexadecimal::decode;
 use ir::handle::Handle;
 use records::image::Record;
-use std::io;
+use std::fmt::Display;
 use std::io::{BufRead, BufReader, BufWriter, Write};
+use std::{fmt, io};
 
-fn show_handle<W: Write>(out: &mut W, handle: Handle) -> io::Result<()> {
-    let table = handle.table();
-    let index = handle.index();
-    write!(out, " {table}:{index}")
+/// A handle by its table and number.
+#[derive(Clone, Copy)]
+struct Numbered(Handle);
+
+impl Display for Numbered {
+    fn fmt<W: fmt::Write>(&self, f: &mut fmt::Formatter<W>) -> fmt::Result {
+        write!(f, " {}:{}", self.0.table(), self.0.index())
+    }
 }
 
-fn show_handles<W: Write>(out: &mut W, record: Record<'_>) -> io::Result<()> {
-    let count = record.handle_count();
-    write!(out, " {count} declared")?;
-    for handle in (0..count).filter_map(|place| record.handle(place)) {
-        show_handle(out, handle)?;
+/// What is answered for a byte string.
+#[derive(Clone, Copy)]
+struct Answer<'a>(Record<'a>);
+
+impl Answer<'_> {
+    /// Whether there is a handle behind the last.
+    fn runs_over(&self) -> bool {
+        let count = self.0.handle_count();
+        self.0.handle(count).is_some() || self.0.tested_handle(count).is_some()
     }
-    write!(out, " tested")?;
-    for handle in (0..count).filter_map(|place| record.tested_handle(place)) {
-        show_handle(out, handle)?;
-    }
-    Ok(())
 }
 
-/// Whether there is a handle behind the last.
-fn runs_over(record: Record<'_>) -> bool {
-    let count = record.handle_count();
-    record.handle(count).is_some() || record.tested_handle(count).is_some()
-}
-
-fn answer<W: Write>(out: &mut W, text: &str, bytes: &[u8]) -> io::Result<()> {
-    let record = Record { bytes };
-    let refusal = match record.judge() {
-        Ok(_) => 0,
-        Err(flaw) => flaw.number(),
-    };
-    write!(out, "{text} {refusal}")?;
-    show_handles(out, record)?;
-    if runs_over(record) {
-        write!(out, " and more")?;
+impl Display for Answer<'_> {
+    // By place, and not by the iterator `handles`: the lookups by place are what is compared.
+    fn fmt<W: fmt::Write>(&self, f: &mut fmt::Formatter<W>) -> fmt::Result {
+        let record = self.0;
+        let refusal = match record.judge() {
+            Ok(_) => 0,
+            Err(flaw) => flaw.number(),
+        };
+        let count = record.handle_count();
+        write!(f, "{refusal} {count} declared")?;
+        for handle in (0..count).filter_map(|place| record.handle(place)) {
+            write!(f, "{}", Numbered(handle))?;
+        }
+        write!(f, " tested")?;
+        for handle in (0..count).filter_map(|place| record.tested_handle(place)) {
+            write!(f, "{}", Numbered(handle))?;
+        }
+        if self.runs_over() {
+            write!(f, " and more")?;
+        }
+        Ok(())
     }
-    writeln!(out)
 }
 
 fn main(rt: HostRuntime) -> io::Result<()> {
@@ -53,7 +61,10 @@ fn main(rt: HostRuntime) -> io::Result<()> {
     for line in BufReader::new(heap, rt.stdin())?.lines(heap) {
         let line = line?;
         let bytes = decode(heap, line.as_str())?;
-        answer(&mut out, line.as_str(), bytes.as_slice())?;
+        let record = Record {
+            bytes: bytes.as_slice(),
+        };
+        writeln!(out, "{line} {}", Answer(record))?;
     }
     out.flush()
 }

@@ -11,7 +11,7 @@ use ir::kinds::Kind;
 use ir::numbers::UnknownKind;
 
 /// Why a byte string is refused, whatever stands before it.
-#[derive(Clone, Copy)]
+#[derive(Clone, Copy, PartialEq, Eq, Debug)]
 pub enum Flaw {
     /// It is empty, or no kind has its first byte as number.
     NoSuchKind = 1,
@@ -31,6 +31,7 @@ impl From<UnknownKind> for Flaw {
 
 impl Flaw {
     /// The number of the refusal.
+    // A method: `u8::from(flaw)` would not say which number it gives.
     pub fn number(self) -> u8
         ensures { result ≡ flaw_number self }
     {

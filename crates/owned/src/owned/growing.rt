@@ -8,8 +8,8 @@ ghost use Rattle.owned.specs.Putting.{put_all, PutOrNone};
 use super::OwnedDraft;
 use crate::denial::Denial;
 use arena::Draft;
-use arena::answer::Answer;
 use arena::slot::Slot;
+use ir::handle::Handle;
 use std::alloc::{AllocError, Global};
 
 impl OwnedDraft {
@@ -44,7 +44,7 @@ impl OwnedDraft {
     }
 
     /// Puts a record, in as much memory as it takes: the item that it is, or why it is not kept.
-    pub fn put(&mut self, record: &[u8]) -> Result<Answer, Denial>
+    pub fn put(&mut self, record: &[u8]) -> Result<Option<Handle>, Denial>
         ensures { PutOrNone (put_all (kept_in self.old) «record».now) result (kept_in self.old) (kept_in self.new) }
     {
         self.make_room(record.len())?;

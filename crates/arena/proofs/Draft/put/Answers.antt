@@ -1,13 +1,17 @@
-use Rattle.std.proofs.Common.{is_ok, Ok, sym, ap, ◌∙◌}
+use Rattle.std.proofs.Common.{◌≡◌, ℕ, List, Ok, Option, sym, ap, ◌∙◌}
 use Rattle.std.proofs.lemmas.Result.{err_from_is_err_and}
+use Rattle.rules.specs.Module.{Record}
 use Rattle.draft.specs.State.{state}
-use Rattle.arena.specs.Memory.{read_off}
-use Rattle.draft.proofs.Stepping.{admits}
+use Rattle.arena.specs.Put.{known}
 use Rattle.laws.proofs.Lawful.{lawful}
 use Rattle.arena.proofs.Placing.{depth_within, free_now}
 use Rattle.arena.proofs.Putting.{admitted_so, put_refused, put_type, put_new, put_other, kept_nothing, kept_front, kept_like}
 use Rattle.arena.proofs.Draft.put.Goals as goal
 use Rattle.arena.proofs.Draft.put.Goals.{in-Types+in_default-find, in_default}
+
+-- what a view finds is known of the records that it shows
+seen : {l m : List Record} (r : Record) {o : Option ℕ} → l ≡ m → o ≡ known (state l) r → known (state m) r ≡ o
+seen r same e = sym (e ∙ ap (λ m. known (state m) r) same)
 
 pub admit-requires : goal.admit-requires
 admit-requires c = depth_within c.requires
@@ -21,12 +25,9 @@ returns-in_err-kind c =
       lawful = lawful _ c.requires.accepted;
     }
 
-pub find-requires : goal.find-requires
-find-requires c = record { stands = c.requires; sound = ap is_ok (admits (state (read_off c.args.self.now.counts c.args.bytes.now c.args.slots.now)) c.args.record.now c.in_ok-kind.kind (admitted_so c.requires c.args.record.now (Ok c.in_ok-kind.kind) c.in_ok-kind.ensures)).kind_is }
-
 pub returns-in-Some : goal.returns-in-Some
 returns-in-Some c =
-    let kept = kept_front c.requires _ _ c.free.new.self.counts c.of.ensures c.free.ensures (put_type _ _ _ _ c.in_ok-kind.kind (admitted_so c.requires c.args.record.now (Ok c.in_ok-kind.kind) c.in_ok-kind.ensures) (ap (λ w. w.table) (sym c.manner.ensures) ∙ c.in-Types.is) _ (sym c.find.ensures ∙ c.in-Some.is)) in
+    let kept = kept_front c.requires _ _ c.free.new.self.counts c.item.ensures c.free.ensures (put_type _ _ _ _ c.in_ok-kind.kind (admitted_so c.requires c.args.record.now (Ok c.in_ok-kind.kind) c.in_ok-kind.ensures) (ap (λ w. w.table) (sym c.manner.ensures) ∙ c.in-Types.is) _ (seen c.args.record.now c.view.ensures.shows c.find.ensures ∙ c.in-Some.is)) in
     record { kept = kept; free = free_now kept.stands; lawful = lawful _ kept.stands.accepted }
 
 pub append-requires : goal.append-requires
@@ -40,7 +41,7 @@ returns c =
       free = free_now kept.stands;
       lawful = lawful _ kept.stands.accepted;
       kept = kept_like (elim c.match-manner.branch [
-        | in-Types+in_default-find w ↦ put_new _ _ _ _ c.in_ok-kind.kind admitted (ap (λ w. w.table) (sym c.manner.ensures) ∙ w.in-Types.is) (sym w.find.ensures ∙ w.in_default-find.is)
+        | in-Types+in_default-find w ↦ put_new _ _ _ _ c.in_ok-kind.kind admitted (ap (λ w. w.table) (sym c.manner.ensures) ∙ w.in-Types.is) (seen c.args.record.now w.view.ensures.shows w.find.ensures ∙ w.in_default-find.is)
         | in_default w ↦ put_other _ _ _ _ c.in_ok-kind.kind admitted (λ e. w.in_default.not-Types (ap (λ w. w.table) c.manner.ensures ∙ e))
       ]) kept;
     }

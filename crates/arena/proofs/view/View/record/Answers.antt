@@ -1,8 +1,20 @@
-use Rattle.arena.proofs.Scanning.{nth_record, no_record}
+use Rattle.std.proofs.Common.{◌+◌, [], Some, sym, ap, ◌∙◌, arith}
+use Rattle.std.proofs.lemmas.Option.{slice_get-get_or}
+use Rattle.arena.proofs.Placing.{kept_is, used_within, start_within, start_more, record_part}
+use Rattle.arena.specs.Viewing.{viewed}
 use Rattle.arena.proofs.view.View.record.Goals as goal
 
-pub returns-then-place-self : goal.returns-then-place-self
-returns-then-place-self c = nth_record c.requires c.args.place c.if-place-self.true _ c.kept_record.ensures
+pub returns : goal.returns
+returns c =
+    let k = kept_is c.args.self.stands in
+    let e = c.kept.ensures in
+    slice_get-get_or (viewed c.args.self) c.args.place [] (omega arith) ∙ ap Some (sym (record_part c.args.self.stands c.args.place _ _ (omega arith) c.start_of-start.ensures c.start_of-end.ensures))
 
-pub returns-else-place-self : goal.returns-else-place-self
-returns-else-place-self c = no_record c.requires c.args.place c.if-place-self.false
+pub slice_bounds-result-count : goal.slice_bounds-result-count
+slice_bounds-result-count c = let k = kept_is c.args.self.stands in let e = c.kept.ensures in let m = start_more c.args.self.stands c.args.place (omega arith) in omega arith
+
+pub slice_bounds-result-start : goal.slice_bounds-result-start
+slice_bounds-result-start c = let k = kept_is c.args.self.stands in let e = c.kept.ensures in let m = start_more c.args.self.stands c.args.place (omega arith) in omega arith
+
+pub slice_bounds-result-end : goal.slice_bounds-result-end
+slice_bounds-result-end c = let m = start_within c.args.self.stands (c.args.place + 1) in let u = used_within c.args.self.stands in omega arith
