@@ -46,7 +46,7 @@ sound_some : (x : Record) → Sound x → 0 < length x
 sound_some [] e = absurd cc
 sound_some (k ∷ x) e = omega arith
 
--- a list of read-off is known by its bytes
+-- a list of records is known by its bytes
 pub image_same : (m n : List Record) → AllByRecursion Sound m → AllByRecursion Sound n → image m ≡ image n → m ≡ n
 image_same [] [] a b e = refl
 image_same [] (y ∷ n) a b e = let l = ap length e ∙ length-append y (image n) in let p = sound_some y b.0 in absurd (omega arith)

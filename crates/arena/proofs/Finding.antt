@@ -4,6 +4,7 @@ use Rattle.std.specs.List.{between, AllByRecursion}
 use Rattle.std.proofs.lemmas.List.{at_drop_more, at_drop_all, take-append-drop, take_more}
 use Rattle.std.proofs.lemmas.List.Sums.{fold_more}
 use Rattle.std.proofs.lemmas.Bool.{cond-true, cond-false}
+use Rattle.std.proofs.lemmas.Bool.Decides.{same_from_decides}
 use Rattle.std.proofs.ByRecursion.{All-push}
 use Rattle.ir.specs.declared.kinds.Kind.{Kind}
 use Rattle.ir.specs.declared.kinds.Kind.TheVariants as kind
@@ -42,60 +43,14 @@ gathered_none : (t : SlotTable) (ws : List Record) (r : Record) → (t ≡ table
 gathered_none t ws r n = cond-false _ _ _ (not_same table.Taken t n)
 
 types_at : (k : Kind) (o : Option BodyKind) (b : Body) (i : Item) (m : Module) → (module_after k o b i m).types ≡ m.types ++ own (table_in o (manner_of k).table) i
-types_at kind.Member o b i m = sym (append-nil m.types)
-types_at kind.Operand o b i m = sym (append-nil m.types)
-types_at kind.Override o b i m = sym (append-nil m.types)
-types_at kind.Constant o b i m = sym (append-nil m.types)
-types_at kind.GlobalVariable o b i m = sym (append-nil m.types)
-types_at kind.SpecialTypes o b i m = sym (append-nil m.types)
-types_at kind.Predeclared o b i m = sym (append-nil m.types)
-types_at kind.Filter o b i m = sym (append-nil m.types)
-types_at kind.Leaf o b i m = sym (append-nil m.types)
-types_at kind.Function o b i m = sym (append-nil m.types)
-types_at kind.EntryPoint o b i m = sym (append-nil m.types)
-types_at kind.FunctionArgument o b i m = sym (append-nil m.types)
-types_at kind.FunctionResult o b i m = sym (append-nil m.types)
-types_at kind.LocalVariable o b i m = sym (append-nil m.types)
 types_at (kind.Type t) o b i m = refl
-types_at kind.Named o b i m = sym (append-nil m.types)
-types_at kind.EndFunction None b i m = sym (append-nil m.types)
 types_at kind.EndFunction (Some body_kind.Function) b i m = sym (append-nil m.types)
-types_at kind.EndFunction (Some body_kind.EntryPoint) b i m = sym (append-nil m.types)
-types_at (kind.Expression e) None b i m = sym (append-nil m.types)
 types_at (kind.Expression e) (Some body_kind.Function) b i m = sym (append-nil m.types)
-types_at (kind.Expression e) (Some body_kind.EntryPoint) b i m = sym (append-nil m.types)
-types_at (kind.Statement c) o b i m = sym (append-nil m.types)
-types_at kind.End o b i m = sym (append-nil m.types)
-types_at kind.EndLoop o b i m = sym (append-nil m.types)
-types_at kind.Case o b i m = sym (append-nil m.types)
-types_at kind.EndSwitch o b i m = sym (append-nil m.types)
+types_at k o b i m = sym (append-nil m.types)
 
 waiting_at : (k : Kind) (o : Option BodyKind) (ws : List Record) (r : Record) → waiting_after (manner_of k).joins ws r ≡ gathered (table_in o (manner_of k).table) ws r
-waiting_at kind.Member o ws r = refl
-waiting_at kind.Operand o ws r = refl
-waiting_at kind.Override o ws r = refl
-waiting_at kind.Constant o ws r = refl
-waiting_at kind.GlobalVariable o ws r = refl
-waiting_at kind.SpecialTypes o ws r = refl
-waiting_at kind.Predeclared o ws r = refl
-waiting_at kind.Filter o ws r = refl
-waiting_at kind.Leaf o ws r = refl
-waiting_at kind.Function o ws r = refl
-waiting_at kind.EntryPoint o ws r = refl
-waiting_at kind.FunctionArgument o ws r = refl
-waiting_at kind.FunctionResult o ws r = refl
-waiting_at kind.LocalVariable o ws r = refl
-waiting_at (kind.Type t) o ws r = refl
-waiting_at kind.Named o ws r = refl
-waiting_at kind.EndFunction o ws r = refl
-waiting_at (kind.Expression e) None ws r = refl
 waiting_at (kind.Expression e) (Some body_kind.Function) ws r = refl
-waiting_at (kind.Expression e) (Some body_kind.EntryPoint) ws r = refl
-waiting_at (kind.Statement c) o ws r = refl
-waiting_at kind.End o ws r = refl
-waiting_at kind.EndLoop o ws r = refl
-waiting_at kind.Case o ws r = refl
-waiting_at kind.EndSwitch o ws r = refl
+waiting_at k o ws r = refl
 
 module _ (s : State) (r : Record) (ok : is_ok (admitted s r) ≡ true) where
   types_step : (step s r).built.types ≡ s.built.types ++ own (table_judged s (judged r)) (item_of s r)
@@ -108,7 +63,7 @@ module _ (s : State) (r : Record) (ok : is_ok (admitted s r) ≡ true) where
       let p = admitted_kind s r ok in
       ap (λ t. t.waiting) (step_is s r p.0 p.1.kind_is) ∙ waiting_at p.0 s.opened s.waiting r ∙ ap (λ t. gathered t s.waiting r) (sym (ap (table_judged s) p.1.kind_is))
 
--- the types that these read-off add
+-- the types that these records add
 abbrev pub new_types : State → List Record → List Item
 new_types s [] = []
 new_types s (r ∷ m) = own (table_judged s (judged r)) (item_of s r) ++ new_types (step s r) m
@@ -235,33 +190,34 @@ module _ (m : List Record) (p : ℕ) (h : p < length m) (a : Accepted start m) w
       ap (λ n. between n end bytes) (front_length from t) ∙ ap (λ n. between (length (image before_is.front)) n bytes) (is ∙ item_end)
       ∙ block_is holds before_is.front ((state (take p m)).waiting ++ get_or m p [] ∷ []) (drop (p + 1) m) item_parts
 
-decides_same : (a b : Bool) (P : Type 0) → Decides a P → Decides b P → a ≡ b
-decides_same true true P x y = refl
-decides_same true false P x y = sym (y.1 (x.0 refl))
-decides_same false true P x y = x.1 (y.0 refl)
-decides_same false false P x y = refl
-
 -- the search so far: what is known from a place on, and where the item there begins
 abbrev pub Searched : List Record → Record → ℕ → ℕ → Type 0
 Searched m r p from = (known_at m p (item_of (state m) r) ≡ known (state m) r) × TakingAt m p from
 
-module _ {d : Counts} {bytes : List ℕ} {slots : List Slot} {m : List Record} (holds : Holds d bytes slots m) {ss : List Slot} (ss_are : ss ≡ layout m) (p : ℕ) (l : p < length ss)
-    (r : Record) (from : ℕ) (so_far : Searched m r p from) (end : ℕ) (end_is : end ≡ length (image (take (p + 1) m))) where
+-- the search at a slot: what is known before it, and where its record ends
+pub record Reached (d : Counts) (bytes : List ℕ) (slots : List Slot) (m : List Record) (ss : List Slot) (p : ℕ) (r : Record) (from end : ℕ) : Type 0 where
+  pub holds : Holds d bytes slots m
+  pub slots_are : ss ≡ layout m
+  pub before : p < length ss
+  pub so_far : Searched m r p from
+  pub end_is : end ≡ length (image (take (p + 1) m))
+
+module _ {d : Counts} {bytes : List ℕ} {slots : List Slot} {m : List Record} {ss : List Slot} {p : ℕ} {r : Record} {from end : ℕ} (at : Reached d bytes slots m ss p r from end) where
   inside : p < length m
-  inside = subst (λ n. p < n) (ap length ss_are ∙ length_layout start m) l
+  inside = subst (λ n. p < n) (ap length at.slots_are ∙ length_layout start m) at.before
 
   pub from_end : from ≤ end
-  from_end = let n = image_next m p inside holds.accepted in let t = so_far.1 in omega arith
+  from_end = let n = image_next m p inside at.holds.accepted in let t = at.so_far.1 in omega arith
 
   -- what the code compares is whether the items are equal
   pub same_block : Sound r → (w : List ℕ) → w ≡ image (state m).waiting → (b : Bool) → Decides b (between from end bytes ≡ w ++ r) → equal_items (item_at m p) (item_of (state m) r) ≡ b
   same_block sound w w_is b decides =
-      let f = fronted_so m holds.accepted in
-      let waiting_sound : AllByRecursion Sound (state m).waiting = all_back f.front (state m).waiting (subst (AllByRecursion Sound) (sym f.parts) (all_sound start m holds.accepted)) in
+      let f = fronted_so m at.holds.accepted in
+      let waiting_sound : AllByRecursion Sound (state m).waiting = all_back f.front (state m).waiting (subst (AllByRecursion Sound) (sym f.parts) (all_sound start m at.holds.accepted)) in
       let other : w ++ r ≡ block_of (item_of (state m) r) = ap (λ x. x ++ r) w_is ∙ sym (image_push (state m).waiting r) in
-      let here : between from end bytes ≡ block_of (item_at m p) = item_block m p inside holds.accepted holds from end so_far.1 end_is in
-      let e = blocks_decide (item_at m p) (item_of (state m) r) (item_sound m p inside holds.accepted) (All-push Sound (state m).waiting r waiting_sound sound) in
-      decides_same _ b (block_of (item_at m p) ≡ block_of (item_of (state m) r)) e ((λ x. sym here ∙ decides.0 x ∙ other), (λ x. decides.1 (here ∙ x ∙ sym other)))
+      let here : between from end bytes ≡ block_of (item_at m p) = item_block m p inside at.holds.accepted at.holds from end at.so_far.1 at.end_is in
+      let e = blocks_decide (item_at m p) (item_of (state m) r) (item_sound m p inside at.holds.accepted) (All-push Sound (state m).waiting r waiting_sound sound) in
+      same_from_decides _ b e ((λ x. sym here ∙ decides.0 x ∙ other), (λ x. decides.1 (here ∙ x ∙ sym other)))
 
   -- the slot that the code reads at the place
   module _ (e : Slot) where
@@ -269,7 +225,7 @@ module _ {d : Counts} {bytes : List ℕ} {slots : List Slot} {m : List Record} (
     slot = get_or ss p e
 
     slot_is : slot ≡ slot_of (state (take p m)) (get_or m p [])
-    slot_is = slot_there holds ss_are p e l
+    slot_is = slot_there at.holds at.slots_are p e at.before
 
     table_here : (t : SlotTable) → slot.table ≡ t → table_at m p ≡ t
     table_here t is = ap (λ s. s.table) (sym slot_is) ∙ is
@@ -277,21 +233,21 @@ module _ {d : Counts} {bytes : List ℕ} {slots : List Slot} {m : List Record} (
     pub found_here : slot.table ≡ table.Types → equal_items (item_at m p) (item_of (state m) r) ≡ true → Some slot.number ≡ known (state m) r
     found_here typed same =
         let number : slot.number ≡ length (state (take p m)).built.types = ap (λ s. s.number) slot_is ∙ ap (λ t. number_of_next t (state (take p m))) (table_here table.Types typed) in
-        ap Some number ∙ sym (agrees m p inside holds.accepted (item_of (state m) r) (table_here table.Types typed) same) ∙ so_far.0
+        ap Some number ∙ sym (agrees m p inside at.holds.accepted (item_of (state m) r) (table_here table.Types typed) same) ∙ at.so_far.0
 
     pub past_joined : (next : ℕ) → next ≡ from → slot.table ≡ table.Taken → Searched m r (p + 1) next
     past_joined next is joined =
         let here = table_here table.Taken joined in
         let not_type : table_at m p ≡ table.Types → ⊥ = λ e. let z : table.Taken ≡ table.Types = sym here ∙ e in let y : ◌≡◌ {A = ℕ} 0 1 = cc in omega arith in
-        (passed m p inside holds.accepted (item_of (state m) r) not_type ∙ so_far.0, subst (TakingAt m (p + 1)) (sym is) (taking_joined m p inside holds.accepted from here so_far.1))
+        (passed m p inside at.holds.accepted (item_of (state m) r) not_type ∙ at.so_far.0, subst (TakingAt m (p + 1)) (sym is) (taking_joined m p inside at.holds.accepted from here at.so_far.1))
 
     pub past_type : (next : ℕ) → next ≡ end → slot.table ≡ table.Types → equal_items (item_at m p) (item_of (state m) r) ≡ false → Searched m r (p + 1) next
     past_type next is typed apart =
         let here = table_here table.Types typed in
         let not_taken : table_at m p ≡ table.Taken → ⊥ = λ e. let z : table.Types ≡ table.Taken = sym here ∙ e in let y : ◌≡◌ {A = ℕ} 0 1 = cc in omega arith in
-        (differs m p inside holds.accepted (item_of (state m) r) here apart ∙ so_far.0, taking_anew m p inside holds.accepted next not_taken (is ∙ end_is))
+        (differs m p inside at.holds.accepted (item_of (state m) r) here apart ∙ at.so_far.0, taking_anew m p inside at.holds.accepted next not_taken (is ∙ at.end_is))
 
     pub past_other : (next : ℕ) → next ≡ end → (slot.table ≡ table.Taken → ⊥) → (slot.table ≡ table.Types → ⊥) → Searched m r (p + 1) next
     past_other next is not_taken not_type =
         let same : slot.table ≡ table_at m p = ap (λ s. s.table) slot_is in
-        (passed m p inside holds.accepted (item_of (state m) r) (λ e. not_type (same ∙ e)) ∙ so_far.0, taking_anew m p inside holds.accepted next (λ e. not_taken (same ∙ e)) (is ∙ end_is))
+        (passed m p inside at.holds.accepted (item_of (state m) r) (λ e. not_type (same ∙ e)) ∙ at.so_far.0, taking_anew m p inside at.holds.accepted next (λ e. not_taken (same ∙ e)) (is ∙ at.end_is))

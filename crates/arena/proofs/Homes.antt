@@ -2,8 +2,8 @@
 use Rattle.std.proofs.Common.{◌≡◌, ℕ, zero, suc, ◌+◌, Bool, true, false, ◌&&◌, ◌||◌, eqb, List, [], ◌∷◌, ◌++◌, map, length, Some, sym, refl, ap, ◌∙◌, subst, arith, None, Option}
 use lib.Dec.{eqb-zero-suc, eqb-suc-zero, eqb-suc-suc}
 use Rattle.std.specs.List.{slice_get}
-use Rattle.std.proofs.lemmas.List.{map_push}
-use Rattle.std.proofs.lemmas.Bool.{and_parts, and_left, and_right, or_parts}
+use Rattle.std.proofs.lemmas.List.{map_push, length-map, length_push}
+use Rattle.std.proofs.lemmas.Bool.{and_parts, and_left, and_right, or_parts, eqb-true}
 use Rattle.ir.specs.declared.handle.Table.{Table}
 use Rattle.ir.specs.declared.handle.Table.TheVariants as handles
 use Rattle.ir.specs.declared.kinds.Kind.{Kind}
@@ -13,10 +13,9 @@ use Rattle.draft.specs.declared.state.BodyKind.{BodyKind}
 use Rattle.draft.specs.declared.state.BodyKind.TheVariants as body_kind
 use Rattle.draft.specs.declared.state.SlotTable.{SlotTable}
 use Rattle.draft.specs.declared.state.SlotTable.TheVariants as table
-use Rattle.draft.specs.declared.manner.Side.TheVariants as side
 use Rattle.draft.specs.Manner.{manner_of}
 use Rattle.draft.specs.State.{State, stepped, item_of, on_side, open_after, functions_now, entries_now, module_after, body_after, function_open, entry_open, number_of_next, table_in, table_of}
-use Rattle.draft.proofs.Stepping.{Admits}
+use Rattle.draft.proofs.Stepping.{Admits, outside_only}
 use Rattle.draft.proofs.Tallying.{statement_stays}
 use Rattle.arena.specs.declared.view.Home.{Home}
 use Rattle.arena.specs.declared.view.Home.TheVariants as home
@@ -35,15 +34,9 @@ abbrev local : SlotTable → Bool
 local t = same_table table.LocalVariables t || same_table table.LocalExpressions t
 
 not_among : (t : Table) (u : SlotTable) → local u ≡ false → among (body_table t) u ≡ false
-not_among handles.Types u e = refl
-not_among handles.Constants u e = refl
-not_among handles.Overrides u e = refl
-not_among handles.GlobalVariables u e = refl
 not_among handles.LocalVariables u e = (or_parts _ _ e).0
 not_among handles.Expressions u e = (or_parts _ _ e).1
-not_among handles.Functions u e = refl
-not_among handles.Filters u e = refl
-not_among handles.EntryPoints u e = refl
+not_among t u e = refl
 
 -- what a record of this table does to the open body
 record Grows (u : SlotTable) (i : Item) (b b' : Body) : Type 0 where
@@ -52,26 +45,15 @@ record Grows (u : SlotTable) (i : Item) (b b' : Body) : Type 0 where
   expressions : b'.expressions ≡ grown (same_table table.LocalExpressions u) b.expressions i
 
 grows_items : (t : Table) (u : SlotTable) (i : Item) (b b' : Body) → Grows u i b b' → body_items t (Some b') ≡ grown (among (body_table t) u) (body_items t (Some b)) i
-grows_items handles.Types u i b b' g = refl
-grows_items handles.Constants u i b b' g = refl
-grows_items handles.Overrides u i b b' g = refl
-grows_items handles.GlobalVariables u i b b' g = refl
 grows_items handles.LocalVariables u i b b' g = g.locals
 grows_items handles.Expressions u i b b' g = g.expressions
-grows_items handles.Functions u i b b' g = refl
-grows_items handles.Filters u i b b' g = refl
-grows_items handles.EntryPoints u i b b' g = refl
+grows_items t u i b b' g = refl
 
 -- what it does to the bodies
 data Goes (u : SlotTable) (i : Item) (o : Option BodyKind) (m : Module) (b : Body) (o' : Option BodyKind) (m' : Module) (b' : Body) : Type 0 where
   stays : opens u ≡ None → o' ≡ o → m'.functions ≡ m.functions → m'.entries ≡ m.entries → Grows u i b b' → (o ≡ None → local u ≡ false) → Goes u i o m b o' m' b'
   begins : local u ≡ false → o ≡ None → o' ≡ opens u → m'.functions ≡ m.functions → m'.entries ≡ m.entries → b' ≡ opened_by i → Goes u i o m b o' m' b'
   ends : local u ≡ false → opens u ≡ None → o' ≡ None → (c : Body) → Grows u i b c → m'.functions ≡ functions_now o m c → m'.entries ≡ entries_now o m c → Goes u i o m b o' m' b'
-
-outside_only : (o : Option BodyKind) → on_side o side.Outside ≡ true → o ≡ None
-outside_only None h = refl
-outside_only (Some body_kind.Function) h = absurd cc
-outside_only (Some body_kind.EntryPoint) h = absurd cc
 
 -- the tables of a module that have items and not bodies
 abbrev Tables : Type 0
@@ -85,64 +67,21 @@ tables_grown u i p = (grown (same_table table.Types u) p.0 i, grown (same_table 
 
 module _ (m : Module) (b : Body) (i : Item) where
   goes_at : (k : Kind) (o : Option BodyKind) → on_side o (manner_of k).side ≡ true → Goes (table_in o (manner_of k).table) i o m b (open_after (manner_of k).motion o) (module_after k o b i m) (body_after k o i b)
-  goes_at kind.Member o h = stays refl refl refl refl (record { opener = refl; locals = refl; expressions = refl }) (λ e. refl)
-  goes_at kind.Operand o h = stays refl refl refl refl (record { opener = refl; locals = refl; expressions = refl }) (λ e. refl)
-  goes_at kind.Override o h = stays refl refl refl refl (record { opener = refl; locals = refl; expressions = refl }) (λ e. refl)
-  goes_at kind.Constant o h = stays refl refl refl refl (record { opener = refl; locals = refl; expressions = refl }) (λ e. refl)
-  goes_at kind.GlobalVariable o h = stays refl refl refl refl (record { opener = refl; locals = refl; expressions = refl }) (λ e. refl)
-  goes_at kind.SpecialTypes o h = stays refl refl refl refl (record { opener = refl; locals = refl; expressions = refl }) (λ e. refl)
-  goes_at kind.Predeclared o h = stays refl refl refl refl (record { opener = refl; locals = refl; expressions = refl }) (λ e. refl)
-  goes_at kind.Filter o h = stays refl refl refl refl (record { opener = refl; locals = refl; expressions = refl }) (λ e. refl)
-  goes_at kind.Leaf o h = stays refl refl refl refl (record { opener = refl; locals = refl; expressions = refl }) (λ e. refl)
   goes_at kind.Function o h = begins refl (outside_only o h) refl refl refl refl
   goes_at kind.EntryPoint o h = begins refl (outside_only o h) refl refl refl refl
-  goes_at kind.FunctionArgument o h = stays refl refl refl refl (record { opener = refl; locals = refl; expressions = refl }) (λ e. refl)
-  goes_at kind.FunctionResult o h = stays refl refl refl refl (record { opener = refl; locals = refl; expressions = refl }) (λ e. refl)
   goes_at kind.LocalVariable None h = absurd cc
-  goes_at kind.LocalVariable (Some body_kind.Function) h = stays refl refl refl refl (record { opener = refl; locals = refl; expressions = refl }) (λ e. absurd cc)
-  goes_at kind.LocalVariable (Some body_kind.EntryPoint) h = stays refl refl refl refl (record { opener = refl; locals = refl; expressions = refl }) (λ e. absurd cc)
-  goes_at (kind.Type t) o h = stays refl refl refl refl (record { opener = refl; locals = refl; expressions = refl }) (λ e. refl)
-  goes_at kind.Named o h = stays refl refl refl refl (record { opener = refl; locals = refl; expressions = refl }) (λ e. refl)
+  goes_at kind.LocalVariable (Some x) h = stays refl refl refl refl (record { opener = refl; locals = refl; expressions = refl }) (λ e. absurd cc)
   goes_at kind.EndFunction None h = absurd cc
   goes_at kind.EndFunction (Some body_kind.Function) h = ends refl refl refl (closed b i) (record { opener = refl; locals = refl; expressions = refl }) refl refl
   goes_at kind.EndFunction (Some body_kind.EntryPoint) h = ends refl refl refl (closed b i) (record { opener = refl; locals = refl; expressions = refl }) refl refl
-  goes_at (kind.Expression x) None h = stays refl refl refl refl (record { opener = refl; locals = refl; expressions = refl }) (λ e. refl)
-  goes_at (kind.Expression x) (Some body_kind.Function) h = stays refl refl refl refl (record { opener = refl; locals = refl; expressions = refl }) (λ e. absurd cc)
-  goes_at (kind.Expression x) (Some body_kind.EntryPoint) h = stays refl refl refl refl (record { opener = refl; locals = refl; expressions = refl }) (λ e. absurd cc)
+  goes_at (kind.Expression x) (Some y) h = stays refl refl refl refl (record { opener = refl; locals = refl; expressions = refl }) (λ e. absurd cc)
   goes_at (kind.Statement x) o h = stays refl (statement_stays x o) refl refl (record { opener = refl; locals = refl; expressions = refl }) (λ e. refl)
-  goes_at kind.End o h = stays refl refl refl refl (record { opener = refl; locals = refl; expressions = refl }) (λ e. refl)
-  goes_at kind.EndLoop o h = stays refl refl refl refl (record { opener = refl; locals = refl; expressions = refl }) (λ e. refl)
-  goes_at kind.Case o h = stays refl refl refl refl (record { opener = refl; locals = refl; expressions = refl }) (λ e. refl)
-  goes_at kind.EndSwitch o h = stays refl refl refl refl (record { opener = refl; locals = refl; expressions = refl }) (λ e. refl)
+  goes_at k o h = stays refl refl refl refl (record { opener = refl; locals = refl; expressions = refl }) (λ e. refl)
 
   tables_at : (k : Kind) (o : Option BodyKind) → tables_of (module_after k o b i m) ≡ tables_grown (table_in o (manner_of k).table) i (tables_of m)
-  tables_at kind.Member o = refl
-  tables_at kind.Operand o = refl
-  tables_at kind.Override o = refl
-  tables_at kind.Constant o = refl
-  tables_at kind.GlobalVariable o = refl
-  tables_at kind.SpecialTypes o = refl
-  tables_at kind.Predeclared o = refl
-  tables_at kind.Filter o = refl
-  tables_at kind.Leaf o = refl
-  tables_at kind.Function o = refl
-  tables_at kind.EntryPoint o = refl
-  tables_at kind.FunctionArgument o = refl
-  tables_at kind.FunctionResult o = refl
-  tables_at kind.LocalVariable o = refl
-  tables_at (kind.Type t) o = refl
-  tables_at kind.Named o = refl
-  tables_at kind.EndFunction None = refl
   tables_at kind.EndFunction (Some body_kind.Function) = refl
-  tables_at kind.EndFunction (Some body_kind.EntryPoint) = refl
-  tables_at (kind.Expression x) None = refl
   tables_at (kind.Expression x) (Some body_kind.Function) = refl
-  tables_at (kind.Expression x) (Some body_kind.EntryPoint) = refl
-  tables_at (kind.Statement x) o = refl
-  tables_at kind.End o = refl
-  tables_at kind.EndLoop o = refl
-  tables_at kind.Case o = refl
-  tables_at kind.EndSwitch o = refl
+  tables_at k o = refl
 
 -- the bodies of one kind, with the open one as the last if it is of that kind
 abbrev now_in : Option BodyKind → List Body → Body → List Body
@@ -208,15 +147,8 @@ module _ (t : Table) (u : SlotTable) (i : Item) where
   stay_items n (Some body_kind.EntryPoint) xs b b' f flag g out = unchanged _ _ i (and_left f hit flag)
 
 empty_items : (t : Table) (i : Item) → body_items t (Some (opened_by i)) ≡ []
-empty_items handles.Types i = refl
-empty_items handles.Constants i = refl
-empty_items handles.Overrides i = refl
-empty_items handles.GlobalVariables i = refl
 empty_items handles.LocalVariables i = refl
-empty_items handles.Expressions i = refl
-empty_items handles.Functions i = refl
-empty_items handles.Filters i = refl
-empty_items handles.EntryPoints i = refl
+empty_items t i = refl
 
 opened_empty : (t : Table) (i : Item) (xs : List Body) (n : ℕ) → body_items t (slice_get (xs ++ opened_by i ∷ []) n) ≡ body_items t (slice_get xs n)
 opened_empty t i [] zero = empty_items t i
@@ -261,6 +193,16 @@ module _ (t : Table) (u : SlotTable) (i : Item) (n k : ℕ) (opened o : Option B
       subst (λ y. Flag n y xs' (entered n f k opened)) (sym p) (subst (λ y. Flag n opened y (entered n f k opened)) (sym q) (begin_flag n k f opened xs here))
   flag_step (Turns.ends l e p c g q) h = subst (λ y. Flag n y xs' (entered n f k opened)) (sym p) tt
 
+  stay_number : (a : Option BodyKind) → Flag n a xs f → (a ≡ None → local u ≡ false) → (among (body_table t) u ≡ true → k ≡ length (body_items t (Some b))) → f ≡ true → among (body_table t) u ≡ true → k ≡ length (body_items t (slice_get (now_in a xs b) n))
+  stay_number None fl out num e w = let v = not_among t u (out refl) in absurd cc
+  stay_number (Some body_kind.Function) fl out num e w = num w ∙ ap (λ y. length (body_items t y)) (sym (nth_last xs b)) ∙ ap (λ y. length (body_items t (slice_get (xs ++ b ∷ []) y))) (eqb-true (length xs) n (sym fl ∙ e))
+  stay_number (Some body_kind.EntryPoint) fl out num e w = absurd cc
+
+  number_step : Turns u i opened o xs b o' xs' b' → (among (body_table t) u ≡ true → k ≡ length (body_items t (Some b))) → (entered n f k opened && among (body_table t) u) ≡ true → k ≡ length (body_items t (slice_get (now_in o xs b) n))
+  number_step (Turns.stays e p q g out) num w = let both = and_parts (entered n f k opened) _ w in stay_number o flag out num (sym (ap (entered n f k) e) ∙ both.0) both.1
+  number_step (Turns.begins l z p q r) num w = let v = not_among t u l in let v2 = (and_parts (entered n f k opened) _ w).1 in absurd cc
+  number_step (Turns.ends l e p c g q) num w = let v = not_among t u l in let v2 = (and_parts (entered n f k opened) _ w).1 in absurd cc
+
 abbrev openers : List Body → List Item
 openers bs = map (λ b. b.opener) bs
 
@@ -285,38 +227,23 @@ openers_step u i opened o xs b o' xs' b' (Turns.stays e p q g out) = ap (λ y. o
 openers_step u i opened o xs b o' xs' b' (Turns.begins l z p q r) = ap (λ y. openers (now_in y xs' b')) p ∙ ap (λ y. openers (now_in opened y b')) q ∙ ap (λ y. openers (now_in opened xs y)) r ∙ openers_begin opened xs i ∙ ap (λ y. grown (mine opened) (openers (now_in y xs b)) i) (sym z)
 openers_step u i opened o xs b o' xs' b' (Turns.ends l e p c g q) = ap (λ y. openers (now_in y xs' b')) p ∙ ap openers q ∙ openers_stay o xs b c g.opener ∙ unchanged _ _ i (ap mine e)
 
+openers_count : (o : Option BodyKind) (xs : List Body) (b : Body) → length xs + function_open o ≡ length (openers (now_in o xs b))
+openers_count None xs b = let e = length-map xs (λ (x : Body). x.opener) in omega arith
+openers_count (Some body_kind.Function) xs b = let e = length-map (xs ++ b ∷ []) (λ (x : Body). x.opener) in let l = length_push xs b in omega arith
+openers_count (Some body_kind.EntryPoint) xs b = let e = length-map xs (λ (x : Body). x.opener) in omega arith
+
 entry_counts : (o : Option BodyKind) → entry_open o ≡ function_open (other o)
 entry_counts None = refl
 entry_counts (Some body_kind.Function) = refl
 entry_counts (Some body_kind.EntryPoint) = refl
 
 function_mine : (u : SlotTable) → mine (opens u) ≡ same_table table.Functions u
-function_mine table.Unnumbered = refl
-function_mine table.Taken = refl
-function_mine table.Types = refl
-function_mine table.Overrides = refl
-function_mine table.Constants = refl
-function_mine table.GlobalVariables = refl
-function_mine table.Filters = refl
-function_mine table.Expressions = refl
 function_mine table.Functions = refl
-function_mine table.EntryPoints = refl
-function_mine table.LocalVariables = refl
-function_mine table.LocalExpressions = refl
+function_mine u = refl
 
 entry_mine : (u : SlotTable) → mine (other (opens u)) ≡ same_table table.EntryPoints u
-entry_mine table.Unnumbered = refl
-entry_mine table.Taken = refl
-entry_mine table.Types = refl
-entry_mine table.Overrides = refl
-entry_mine table.Constants = refl
-entry_mine table.GlobalVariables = refl
-entry_mine table.Filters = refl
-entry_mine table.Expressions = refl
-entry_mine table.Functions = refl
 entry_mine table.EntryPoints = refl
-entry_mine table.LocalVariables = refl
-entry_mine table.LocalExpressions = refl
+entry_mine u = refl
 
 -- the flag of a scan after the records of a state
 abbrev pub FlagOf : Home → State → Bool → Type 0
@@ -327,6 +254,8 @@ FlagOf (home.EntryPoint n) s f = Flag n (other s.opened) s.built.entries f
 -- what one more record does to the items of a table
 pub record Step (h : Home) (t : Table) (s s' : State) (u : SlotTable) (i : Item) (f : Bool) : Type 0 where
   pub items : items_in h t s' ≡ grown (enters h f u (number_of_next u s) && among (slot_table h t) u) (items_in h t s) i
+  -- a record that is an item gets as number how many items the table has
+  pub number : (enters h f u (number_of_next u s) && among (slot_table h t) u) ≡ true → number_of_next u s ≡ length (items_in h t s)
   pub flag : FlagOf h s' (enters h f u (number_of_next u s))
 
 module _ (s : State) (r : Record) (k : Kind) (a : Admits s r k) where
@@ -373,6 +302,34 @@ module _ (s : State) (r : Record) (k : Kind) (a : Admits s r k) where
   numbered : (w : SlotTable) → same_table w u ≡ true → number_of_next u s ≡ number_of_next w s
   numbered w e = ap (λ y. number_of_next y s) (sym (same_is w u e))
 
+  functions_number : number_of_next table.Functions s ≡ length (openers (functions_now s.opened s.built s.body))
+  functions_number = openers_count s.opened s.built.functions s.body ∙ ap (λ y. length (openers y)) (sym (functions_are s.opened s.built s.body))
+
+  entries_number : number_of_next table.EntryPoints s ≡ length (openers (entries_now s.opened s.built s.body))
+  entries_number = ap (λ y. length s.built.entries + y) (entry_counts s.opened) ∙ openers_count (other s.opened) s.built.entries s.body ∙ ap (λ y. length (openers y)) (sym (entries_are s.opened s.built s.body))
+
+  module_number : (t : Table) → among (module_table t) u ≡ true → number_of_next u s ≡ length (module_items t s)
+  module_number handles.Types e = numbered table.Types e
+  module_number handles.Constants e = numbered table.Constants e
+  module_number handles.Overrides e = numbered table.Overrides e
+  module_number handles.GlobalVariables e = numbered table.GlobalVariables e
+  module_number handles.LocalVariables e = absurd cc
+  module_number handles.Expressions e = numbered table.Expressions e
+  module_number handles.Functions e = numbered table.Functions e ∙ functions_number
+  module_number handles.Filters e = numbered table.Filters e
+  module_number handles.EntryPoints e = numbered table.EntryPoints e ∙ entries_number
+
+  body_number : (t : Table) → among (body_table t) u ≡ true → number_of_next u s ≡ length (body_items t (Some s.body))
+  body_number handles.Types e = absurd cc
+  body_number handles.Constants e = absurd cc
+  body_number handles.Overrides e = absurd cc
+  body_number handles.GlobalVariables e = absurd cc
+  body_number handles.LocalVariables e = numbered table.LocalVariables e
+  body_number handles.Expressions e = numbered table.LocalExpressions e
+  body_number handles.Functions e = absurd cc
+  body_number handles.Filters e = absurd cc
+  body_number handles.EntryPoints e = absurd cc
+
   function_number : opens u ≡ Some body_kind.Function → number_of_next u s ≡ length s.built.functions + function_open s.opened
   function_number e = numbered table.Functions (sym (function_mine u) ∙ ap mine e)
 
@@ -380,12 +337,14 @@ module _ (s : State) (r : Record) (k : Kind) (a : Admits s r k) where
   entry_number e = numbered table.EntryPoints (sym (entry_mine u) ∙ ap mine e) ∙ ap (λ y. length s.built.entries + y) (entry_counts s.opened)
 
   pub home_step : (h : Home) (t : Table) (f : Bool) → FlagOf h s f → Step h t s s' u i f
-  home_step home.Module t f flag = record { items = module_step t; flag = tt }
+  home_step home.Module t f flag = record { items = module_step t; number = module_number t; flag = tt }
   home_step (home.Function n) t f flag = record {
     items = ap (λ y. body_items t (slice_get y n)) (functions_are s'.opened s'.built s'.body) ∙ body_step t u i n (number_of_next u s) (opens u) s.opened s.built.functions s.body s'.opened s'.built.functions s'.body f flag functions_turn ∙ ap (λ y. grown (entered n f (number_of_next u s) (opens u) && among (body_table t) u) (body_items t (slice_get y n)) i) (sym (functions_are s.opened s.built s.body));
+    number = λ w. number_step t u i n (number_of_next u s) (opens u) s.opened s.built.functions s.body s'.opened s'.built.functions s'.body f flag functions_turn (body_number t) w ∙ ap (λ y. length (body_items t (slice_get y n))) (sym (functions_are s.opened s.built s.body));
     flag = flag_step t u i n (number_of_next u s) (opens u) s.opened s.built.functions s.body s'.opened s'.built.functions s'.body f flag functions_turn function_number;
   }
   home_step (home.EntryPoint n) t f flag = record {
     items = ap (λ y. body_items t (slice_get y n)) (entries_are s'.opened s'.built s'.body) ∙ body_step t u i n (number_of_next u s) (other (opens u)) (other s.opened) s.built.entries s.body (other s'.opened) s'.built.entries s'.body f flag entries_turn ∙ ap (λ y. grown (entered n f (number_of_next u s) (other (opens u)) && among (body_table t) u) (body_items t (slice_get y n)) i) (sym (entries_are s.opened s.built s.body));
+    number = λ w. number_step t u i n (number_of_next u s) (other (opens u)) (other s.opened) s.built.entries s.body (other s'.opened) s'.built.entries s'.body f flag entries_turn (body_number t) w ∙ ap (λ y. length (body_items t (slice_get y n))) (sym (entries_are s.opened s.built s.body));
     flag = flag_step t u i n (number_of_next u s) (other (opens u)) (other s.opened) s.built.entries s.body (other s'.opened) s'.built.entries s'.body f flag entries_turn entry_number;
   }

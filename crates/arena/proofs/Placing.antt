@@ -32,7 +32,7 @@ pub length_layout : (s : State) (m : List Record) → length (layout_from s m) �
 length_layout s [] = refl
 length_layout s (x ∷ m) = ap suc (length_layout (step s x) m)
 
--- a run of read_off among others stands as one block of bytes
+-- a run of records among others stands as one block of bytes
 pub block : (a b c : List Record) (post : List ℕ) → between (length (image a)) (length (image (a ++ b))) (image (a ++ (b ++ c)) ++ post) ≡ image b
 block a b c post =
     let whole : image (a ++ (b ++ c)) ++ post ≡ image a ++ (image b ++ (image c ++ post)) = ap (λ l. l ++ post) (image_append a (b ++ c) ∙ ap (λ l. image a ++ l) (image_append b c)) ∙ append_assoc (image a) (image b ++ image c) post ∙ ap (λ l. image a ++ l) (append_assoc (image b) (image c) post) in
@@ -99,14 +99,14 @@ module _ {d : Counts} {bytes : List ℕ} {slots : List Slot} {m : List Record} (
       ∙ ap (cuts (layout m) (length (image m))) bytes_split
       ∙ cuts_are start [] m (drop d.used bytes) h.accepted refl
 
-  -- what the calls promise of memory that holds these read_off
+  -- what the calls promise of memory that holds these records
   pub stands_now : Standing d bytes slots
   stands_now = subst (Holds d bytes slots) (sym records_are) h
 
   pub state_at : (p : ℕ) → Counted (take p m) (state (take p m))
   state_at p = counted_so (take p m) (accepted_front start (take p m) (drop p m) (subst (Accepted start) (sym (take-append-drop p m)) h.accepted))
 
-  -- a run of the kept read_off, as the memory has it
+  -- a run of the kept records, as the memory has it
   pub block_is : (a b c : List Record) → a ++ (b ++ c) ≡ m → between (length (image a)) (length (image (a ++ b))) bytes ≡ image b
   block_is a b c e = ap (between (length (image a)) (length (image (a ++ b)))) (bytes_split ∙ ap (λ l. image l ++ drop d.used bytes) (sym e)) ∙ block a b c (drop d.used bytes)
 
@@ -120,12 +120,19 @@ module _ {d : Counts} {bytes : List ℕ} {slots : List Slot} {m : List Record} (
   pub start_within : (p : ℕ) → length (image (take p m)) ≤ d.used
   start_within p = let e = ap length (image_append (take p m) (drop p m)) ∙ length-append (image (take p m)) (image (drop p m)) in let f = ap (λ l. length (image l)) (take-append-drop p m) in let u = used_is in omega arith
 
+  -- a record begins within what is kept, and so within the bytes
+  pub begins_kept : (p : ℕ) {begin : ℕ} → begin ≡ length (image (take p m)) → begin ≤ d.used
+  begins_kept p is = let s = start_within p in omega arith
+
+  pub begins_within : (p : ℕ) {begin : ℕ} → begin ≡ length (image (take p m)) → begin ≤ length bytes
+  begins_within p is = let k = begins_kept p is in let u = used_within in omega arith
+
   -- one more record
   pub holds_push : (r : Record) (k : Kind) → Admits (state m) r k → is_ok (admitted (state m) r) ≡ true → d.kept < length slots
       → (bytes' : List ℕ) → take (d.used + length r) bytes' ≡ take d.used bytes ++ r
       → Holds (advanced d (length r) (manner_of k)) bytes' (set slots d.kept (slot_in (state m) (table_of (state m) k))) (m ++ r ∷ [])
   holds_push r k a ok room bytes' copied = record {
-    counts_are = ap (λ e. advanced e (length r) (manner_of k)) h.counts_are ∙ sym (counts_after (state m) r k a counted_now.deep) ∙ ap counts_of (sym (state_push m r ∙ step_is (state m) r k a.kind_is));
+    counts_are = ap (λ e. advanced e (length r) (manner_of k)) h.counts_are ∙ sym (counts_after (state m) r k a counted_now.deep counted_now.idle) ∙ ap counts_of (sym (state_push m r ∙ step_is (state m) r k a.kind_is));
     bytes_are = copied ∙ ap (λ b. b ++ r) h.bytes_are ∙ sym (image_push m r);
     slots_are = take_more_set slots d.kept (slot_in (state m) (table_of (state m) k)) room ∙ ap (λ b. b ++ slot_in (state m) (table_of (state m) k) ∷ []) h.slots_are ∙ ap (λ t. layout m ++ slot_in (state m) t ∷ []) (sym (ap (table_judged (state m)) a.kind_is)) ∙ layout_more m r;
     accepted = accepted_more m r h.accepted ok;

@@ -19,13 +19,13 @@ use Rattle.draft.specs.declared.counts.Counts.{Counts}
 use Rattle.draft.specs.Manner.{manner_of, turn_of}
 use Rattle.rules.specs.Module.{Record}
 use Rattle.draft.specs.State.{State, start, step, state, innermost, deepens, table_in, table_of, number_of_next}
-use Rattle.draft.specs.Counting.{counts_of, counted, top, advanced, freed}
+use Rattle.draft.specs.Counting.{stack_of, waits_of, pieces_of, count_of, counts_of, counted, top, advanced, freed}
 use Rattle.draft.specs.Stacking.{Turns}
 use Rattle.arena.specs.Answer.{Answer, answered}
 use Rattle.arena.specs.Put.{has_room, fits, added, known, known_or_added, put_in, put_admitted, put_def}
 use Rattle.arena.specs.Memory.{layout_from, layout, Holds, Kept, slot_of, slot_in}
 use Rattle.draft.proofs.Stepping.{Admits, admits, accepted_front, image_append}
-use Rattle.draft.proofs.Tallying.{top_is, turns_fit, counted_is}
+use Rattle.draft.proofs.Tallying.{top_is, turns_fit, counted_is, pieces_is, count_is}
 use Rattle.arena.proofs.Placing.{used_is, kept_is, records_are, stands_now, holds_push, counted_now, block_is}
 use Rattle.draft.proofs.Fronts.{Fronted, fronted_so, front_is, waiting_within, bare}
 
@@ -50,23 +50,24 @@ module _ {d : Counts} {bytes : List ℕ} {slots : List Slot} {m : List Record} (
   pub fronted_now : Fronted m (state m)
   fronted_now = fronted_so m h.accepted
 
-  pub waiting_is : d.waiting ≡ length (state m).waiting
-  waiting_is = ap (λ e. e.waiting) h.counts_are
+  pub waiting_is : count_of d.waits ≡ length (state m).waiting
+  waiting_is = ap (λ e. count_of e.waits) h.counts_are ∙ count_is (state m).waits (state m).waiting (counted_now h).idle
 
-  pub waiting_kept : d.waiting ≤ d.kept
+  pub waiting_kept : count_of d.waits ≤ d.kept
   waiting_kept = let w = waiting_within m (state m) fronted_now in let e = waiting_is in let k = kept_is h in omega arith
 
   -- the place where what waits begins
-  pub place_is : d.kept - d.waiting ≡ length m - length (state m).waiting
+  pub place_is : d.kept - count_of d.waits ≡ length m - length (state m).waiting
   place_is = let e = waiting_is in let k = kept_is h in omega arith
 
   -- what the code tests is what is defined
-  pub admitted_is : (r : Record) → admitted_with d.waits d.opened (top d.brackets) d.brackets.depth (judged r) ≡ admitted (state m) r
+  pub admitted_is : (r : Record) → admitted_with (pieces_of d.waits) d.opened (top d.brackets) d.brackets.depth (judged r) ≡ admitted (state m) r
   admitted_is r =
-      ap (λ e. admitted_with e.waits e.opened (top e.brackets) e.brackets.depth (judged r)) h.counts_are
+      ap (λ e. admitted_with (pieces_of e.waits) e.opened (top e.brackets) e.brackets.depth (judged r)) h.counts_are
+      ∙ ap (λ w. admitted_with w (state m).opened (top (stack_of (state m).brackets)) (length (state m).brackets) (judged r)) (pieces_is (state m).waits (length (state m).waiting))
       ∙ ap (λ o. admitted_with (state m).waits (state m).opened o (length (state m).brackets) (judged r)) (top_is (state m).brackets)
 
-  pub admitted_so : (r : Record) (f : Result Kind Refusal) → f ≡ admitted_with d.waits d.opened (top d.brackets) d.brackets.depth (judged r) → admitted (state m) r ≡ f
+  pub admitted_so : (r : Record) (f : Result Kind Refusal) → f ≡ admitted_with (pieces_of d.waits) d.opened (top d.brackets) d.brackets.depth (judged r) → admitted (state m) r ≡ f
   admitted_so r f e = sym (admitted_is r) ∙ sym e
 
   -- what is left when what waits goes
@@ -90,24 +91,26 @@ module _ {d : Counts} {bytes : List ℕ} {slots : List Slot} {m : List Record} (
       size : length (image front) ≤ d.used
       size = let e = ap length image_is in let l = length-append (image front) (image (state m).waiting) in let u = used_is h in omega arith
 
-      places : d.kept - d.waiting ≡ length front
+      places : d.kept - count_of d.waits ≡ length front
       places = let e = lengths in let w = waiting_is in let k = kept_is h in omega arith
 
       fewer : length front ≤ d.kept
       fewer = let e = lengths in let k = kept_is h in omega arith
 
       bare_counts : freed (counts_of (state m)) (length (image front)) ≡ counts_of (bare (state m) front)
-      bare_counts = let e : (state m).kept - length (state m).waiting ≡ length front = let l = lengths in let k = (counted_now h).kept_is in omega arith in cc
+      bare_counts =
+          let c = count_is (state m).waits (state m).waiting (counted_now h).idle in
+          let e : (state m).kept - count_of (waits_of (state m).waits (length (state m).waiting)) ≡ length front = let l = lengths in let k = (counted_now h).kept_is in omega arith in
+          cc
 
-  pub front_now : take (d.kept - d.waiting) m ≡ fronted_now.front
-  front_now = ap (λ n. take n m) place_is ∙ front_is m (state m) fronted_now
+  front_now : take (length m - length (state m).waiting) m ≡ fronted_now.front
+  front_now = front_is m (state m) fronted_now
 
   -- a call that finds an equal type
-  pub kept_front : {defined : Result Answer Refusal × List Record} (a b : Answer) (d' : Counts) → a ≡ b → d' ≡ freed d (length (image (take (d.kept - d.waiting) m))) → defined ≡ (Ok b, take (length m - length (state m).waiting) m) → Kept defined (Ok a) d bytes slots d' bytes slots
+  pub kept_front : {defined : Result Answer Refusal × List Record} (a b : Answer) (d' : Counts) → a ≡ b → d' ≡ freed d (length (image (take (length m - length (state m).waiting) m))) → defined ≡ (Ok b, take (length m - length (state m).waiting) m) → Kept defined (Ok a) d bytes slots d' bytes slots
   kept_front a b d' a_is d'_is is =
-      let left : take (length m - length (state m).waiting) m ≡ fronted_now.front = front_is m (state m) fronted_now in
       let same : d' ≡ freed d (length (image fronted_now.front)) = d'_is ∙ ap (λ l. freed d (length (image l))) front_now in
-      rw (is, left, same, a_is) (record { answers = refl; stands = stands_now holds_front; keeps = records_are holds_front; unchanged = λ bad. absurd cc })
+      rw (is, front_now, same, a_is) (record { answers = refl; stands = stands_now holds_front; keeps = records_are holds_front; unchanged = λ bad. absurd cc })
 
   module _ (r : Record) (k : Kind) (e : admitted (state m) r ≡ Ok k) where
     ad : Admits (state m) r k
@@ -164,7 +167,7 @@ module _ {d : Counts} {bytes : List ℕ} {slots : List Slot} {m : List Record} (
         kept_nothing h (Err Full) (cond-false _ _ _ (fits_is ∙ full'))
 
 -- what waits, as the memory has it
-pub waiting_part : {d : Counts} {bytes : List ℕ} {slots : List Slot} {m : List Record} (h : Holds d bytes slots m) (from : ℕ) → from ≡ length (image (take (d.kept - d.waiting) m)) → between from d.used bytes ≡ image (state m).waiting
+pub waiting_part : {d : Counts} {bytes : List ℕ} {slots : List Slot} {m : List Record} (h : Holds d bytes slots m) (from : ℕ) → from ≡ length (image (take (length m - length (state m).waiting) m)) → between from d.used bytes ≡ image (state m).waiting
 waiting_part {d} {bytes} {slots} {m} h from is =
     let f = fronted_now h in
     let whole : f.front ++ ((state m).waiting ++ []) ≡ m = ap (λ l. f.front ++ l) (append-nil (state m).waiting) ∙ f.parts in
@@ -175,20 +178,9 @@ waiting_part {d} {bytes} {slots} {m} h from is =
 -- the cases of put
 module _ (room places : ℕ) (m : List Record) (r : Record) where
   put_in_other : (o : Option BodyKind) (t : SlotTable) → (t ≡ table.Types → ⊥) → put_in room places m r (table_in o t) ≡ added room places m r (table_in o t)
-  put_in_other o table.Unnumbered other = refl
-  put_in_other o table.Taken other = refl
   put_in_other o table.Types other = absurd (other refl)
-  put_in_other o table.Overrides other = refl
-  put_in_other o table.Constants other = refl
-  put_in_other o table.GlobalVariables other = refl
-  put_in_other o table.Filters other = refl
-  put_in_other None table.Expressions other = refl
   put_in_other (Some body_kind.Function) table.Expressions other = refl
-  put_in_other (Some body_kind.EntryPoint) table.Expressions other = refl
-  put_in_other o table.Functions other = refl
-  put_in_other o table.EntryPoints other = refl
-  put_in_other o table.LocalVariables other = refl
-  put_in_other o table.LocalExpressions other = refl
+  put_in_other o t other = refl
 
   pub put_refused : (e : Refusal) → admitted (state m) r ≡ Err e → put_def room places m r ≡ (Err e, m)
   unfolding put_def

@@ -64,16 +64,8 @@ module _ (h : Home) (t : Table) where
 
 none_yet : (h : Home) (t : Table) → items_in h t start ≡ []
 none_yet home.Module handles.Types = refl
-none_yet home.Module handles.Constants = refl
-none_yet home.Module handles.Overrides = refl
-none_yet home.Module handles.GlobalVariables = refl
-none_yet home.Module handles.LocalVariables = refl
-none_yet home.Module handles.Expressions = refl
-none_yet home.Module handles.Functions = refl
-none_yet home.Module handles.Filters = refl
-none_yet home.Module handles.EntryPoints = refl
-none_yet (home.Function n) t = refl
-none_yet (home.EntryPoint n) t = refl
+none_yet home.Module t = refl
+none_yet h t = refl
 
 start_flag : (h : Home) (f : Bool) → FlagOf h start f
 start_flag home.Module f = tt

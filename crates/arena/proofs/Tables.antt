@@ -11,17 +11,7 @@ unrank n = cond (eqb n 0) table.Unnumbered (cond (eqb n 1) table.Taken (cond (eq
 unrank_rank : (t : SlotTable) → unrank (rank t) ≡ t
 unfolding unrank
 unrank_rank table.Unnumbered = refl
-unrank_rank table.Taken = refl
-unrank_rank table.Types = refl
-unrank_rank table.Overrides = refl
-unrank_rank table.Constants = refl
-unrank_rank table.GlobalVariables = refl
-unrank_rank table.Filters = refl
-unrank_rank table.Expressions = refl
-unrank_rank table.Functions = refl
-unrank_rank table.EntryPoints = refl
-unrank_rank table.LocalVariables = refl
-unrank_rank table.LocalExpressions = refl
+unrank_rank t = refl
 
 -- the test of two tables decides whether they are the same
 pub same_is : (t u : SlotTable) → same_table t u ≡ true → t ≡ u

@@ -48,18 +48,8 @@ module _ (room places : ℕ) (m : List Record) (r : Record) where
   known_or_added None = added table.Types
 
   abbrev pub put_in : SlotTable → Result Answer Refusal × List Record
-  put_in table.Unnumbered = added table.Unnumbered
-  put_in table.Taken = added table.Taken
   put_in table.Types = known_or_added (known (state m) r)
-  put_in table.Overrides = added table.Overrides
-  put_in table.Constants = added table.Constants
-  put_in table.GlobalVariables = added table.GlobalVariables
-  put_in table.Filters = added table.Filters
-  put_in table.Expressions = added table.Expressions
-  put_in table.Functions = added table.Functions
-  put_in table.EntryPoints = added table.EntryPoints
-  put_in table.LocalVariables = added table.LocalVariables
-  put_in table.LocalExpressions = added table.LocalExpressions
+  put_in t = added t
 
   abbrev pub put_admitted : Result Kind Refusal → Result Answer Refusal × List Record
   put_admitted (Err e) = (Err e, m)

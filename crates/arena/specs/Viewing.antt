@@ -28,18 +28,12 @@ module_items handles.Functions s = map (λ b. b.opener) (functions_now s.opened 
 module_items handles.Filters s = s.built.filters
 module_items handles.EntryPoints s = map (λ b. b.opener) (entries_now s.opened s.built s.body)
 
--- the items of a table of a body
+-- the items of a table of a body: a body has only local variables and expressions
 abbrev pub body_items : Table → Option Body → List Item
 body_items t None = []
-body_items handles.Types (Some b) = []
-body_items handles.Constants (Some b) = []
-body_items handles.Overrides (Some b) = []
-body_items handles.GlobalVariables (Some b) = []
 body_items handles.LocalVariables (Some b) = b.locals
 body_items handles.Expressions (Some b) = b.expressions
-body_items handles.Functions (Some b) = []
-body_items handles.Filters (Some b) = []
-body_items handles.EntryPoints (Some b) = []
+body_items t (Some b) = []
 
 -- the items of a table, of the module or of the function or entry point with that number
 abbrev pub items_in : Home → Table → State → List Item
@@ -94,17 +88,11 @@ module_table handles.Functions = Some table.Functions
 module_table handles.Filters = Some table.Filters
 module_table handles.EntryPoints = Some table.EntryPoints
 
--- what the slots of a table of a body say
+-- what the slots of a table of a body say: a body has only local variables and expressions
 abbrev pub body_table : Table → Option SlotTable
-body_table handles.Types = None
-body_table handles.Constants = None
-body_table handles.Overrides = None
-body_table handles.GlobalVariables = None
 body_table handles.LocalVariables = Some table.LocalVariables
 body_table handles.Expressions = Some table.LocalExpressions
-body_table handles.Functions = None
-body_table handles.Filters = None
-body_table handles.EntryPoints = None
+body_table t = None
 
 abbrev pub slot_table : Home → Table → Option SlotTable
 slot_table home.Module t = module_table t
@@ -115,20 +103,11 @@ abbrev pub among : Option SlotTable → SlotTable → Bool
 among None t = false
 among (Some w) t = same_table w t
 
--- the body that a slot of this table opens
+-- the body that a slot of this table opens: only a function or an entry point opens one
 abbrev pub opens : SlotTable → Option BodyKind
-opens table.Unnumbered = None
-opens table.Taken = None
-opens table.Types = None
-opens table.Overrides = None
-opens table.Constants = None
-opens table.GlobalVariables = None
-opens table.Filters = None
-opens table.Expressions = None
 opens table.Functions = Some body_kind.Function
 opens table.EntryPoints = Some body_kind.EntryPoint
-opens table.LocalVariables = None
-opens table.LocalExpressions = None
+opens t = None
 
 abbrev pub other : Option BodyKind → Option BodyKind
 other None = None

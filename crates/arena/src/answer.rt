@@ -6,6 +6,7 @@ use draft::state::SlotTable;
 use ir::handle::{Handle, Table};
 
 /// The number of the item that put answered, and 0 for a record without a number.
+// A 0 for none, as answers are printed.
 pub fn answered_number(answer: Option<Handle>) -> u32
     ensures { result ≡ answer_number answer }
 {
@@ -13,7 +14,7 @@ pub fn answered_number(answer: Option<Handle>) -> u32
 }
 
 /// The table whose handles name the items of a slot's table, where it has numbers.
-fn handle_table(table: SlotTable) -> Option<Table>
+pub fn handle_table(table: SlotTable) -> Option<Table>
     ensures { result ≡ table_of table }
 {
     match table {

@@ -1,5 +1,5 @@
 //! The search for a kept type that equals another.
-ghost use Rattle.std.specs.Prelude.{◌≡◌, true, ◌++◌, is_ok, Decides};
+ghost use Rattle.std.specs.Prelude.{◌≡◌, ◌-◌, true, ◌++◌, length, take, is_ok, Decides};
 ghost use Rattle.records.specs.Record.{judged};
 ghost use Rattle.draft.specs.State.{state};
 ghost use Rattle.draft.specs.Admitted.{image};
@@ -20,11 +20,18 @@ fn is_joined(block: &[u8], front: &[u8], rest: &[u8]) -> bool
 }
 
 impl<'a> View<'a> {
+    /// Where what waits begins.
+    pub(crate) fn waiting_start(self) -> usize
+        ensures { result ≡ length (image (take (length (viewed self.entry) - length (state (viewed self.entry)).waiting) (viewed self.entry))) }
+    {
+        self.start_of(self.draft.counts.kept - self.draft.counts.waiting())
+    }
+
     /// What waits, as one block of bytes.
     fn waiting_block(self) -> &'a [u8]
         ensures { result.now ≡ image (state (viewed self.entry)).waiting }
     {
-        let start = self.start_of(self.draft.counts.kept - self.draft.counts.waiting);
+        let start = self.waiting_start();
         let end = self.draft.counts.used;
         &self.bytes[start..end]
     }
@@ -36,6 +43,7 @@ impl<'a> View<'a> {
     {
         let waiting = self.waiting_block();
         let kept = self.kept_slots();
+        // Where the block of the next type begins: the records that it took stand before it.
         let mut from = 0;
         for (place, slot) in kept.iter().enumerate() {
             let end = self.start_of(place + 1);

@@ -1,8 +1,8 @@
 //! Putting a record into a draft.
-ghost use Rattle.std.specs.Prelude.{◌≡◌, ℕ, ◌-◌, ◌≤◌, List, [], length, take, Ok};
+ghost use Rattle.std.specs.Prelude.{◌≡◌, ℕ, ◌≤◌, List, [], length, Ok};
 ghost use Rattle.draft.specs.State.{state, table_of};
-ghost use Rattle.draft.specs.Counting.{counts_of, freed};
-ghost use Rattle.draft.specs.Admitted.{image, admitted};
+ghost use Rattle.draft.specs.Counting.{count_of, counts_of, freed};
+ghost use Rattle.draft.specs.Admitted.{admitted};
 ghost use Rattle.arena.specs.declared.slot.Slot.{Slot as AnySlot};
 ghost use Rattle.arena.specs.Put.{has_room, added, put_def};
 ghost use Rattle.arena.specs.Memory.{Stands, records, Free, KeptAs};
@@ -45,19 +45,18 @@ impl Draft {
         size <= room - self.counts.used && self.counts.kept < places && number < u32::MAX
     }
 
-    /// Takes back what waits.
-    fn free(&mut self, bytes: &[u8], slots: &[Slot])
-        requires { Stands self.old bytes.now slots.now }
-        ensures { self.new.counts ≡ freed self.old.counts (length (image (take (self.old.counts.kept - self.old.counts.waiting) (records self.old bytes.now slots.now)))) }
+    /// Takes back what waits, which begins at this byte.
+    fn free(&mut self, start: usize)
+        requires { count_of self.old.counts.waits ≤ self.old.counts.kept }
+        ensures { self.new.counts ≡ freed self.old.counts start }
     {
-        let place = self.counts.kept - self.counts.waiting;
-        self.counts.used = self.view(bytes, slots).start_of(place);
-        self.counts.kept = place;
+        self.counts.kept -= self.counts.waiting();
+        self.counts.used = start;
         self.counts.waits = None;
-        self.counts.waiting = 0;
     }
 
     /// Keeps the record as the last one, where there is room.
+    // Lent what put is lent, and writes it.
     fn append(
         &mut self,
         bytes: &mut [u8],
@@ -101,8 +100,10 @@ impl Draft {
     {
         let kind = self.counts.admit(record)?;
         if let SlotTable::Types = manner(kind).table {
-            if let Some(number) = self.view(bytes, slots).find(record) {
-                self.free(bytes, slots);
+            let view = self.view(bytes, slots);
+            if let Some(number) = view.find(record) {
+                let start = view.waiting_start();
+                self.free(start);
                 return Ok(item(SlotTable::Types, number));
             }
         }

@@ -2,6 +2,7 @@
 use draft::state::SlotTable;
 
 /// Where a kept record begins, and its number in its table.
+// Slots stand in lent memory as three plain fields, which every reader finds alike: `number` stands beside `table` also where the table numbers nothing.
 #[derive(Clone, Copy)]
 pub struct Slot {
     pub start: usize,

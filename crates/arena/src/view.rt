@@ -14,6 +14,7 @@ use ir::handle::Table;
 
 /// Where items are numbered: in the module, or in the body of the function or entry point with that
 /// number.
+// Not an `Option` of a body: the module is a home like the others, with tables of its own.
 #[derive(Clone, Copy)]
 pub enum Home {
     Module,

@@ -108,9 +108,11 @@ enum Progress {
     /// An option came whose number is next.
     Awaiting(Limit, Options),
     /// A word decided, whatever comes behind it.
+    // Carried through the fold: the words behind it are still read, and change nothing.
     Settled(Result<Request, Misuse>),
 }
 
+// By text and not by `Word`, whose cases are words behind a command.
 fn take_command(text: &str) -> Progress
     ensures { result ≡ command_of text.now }
 {
@@ -146,12 +148,12 @@ fn take_option(word: Word, options: Options) -> Progress
     }
 }
 
-/// The number with one digit more.
-fn add_digit(number: usize, digit: u8) -> Option<usize>
-    ensures { result ≡ digit_more (Some number) digit }
+/// The number, if it is one, with one digit more.
+fn add_digit(number: Option<usize>, digit: u8) -> Option<usize>
+    ensures { result ≡ digit_more number digit }
 {
     match digit {
-        b'0'..=b'9' => number
+        b'0'..=b'9' => number?
             .checked_mul(10)?
             .checked_add(usize::from(digit - b'0')),
         _ => None,
@@ -159,6 +161,7 @@ fn add_digit(number: usize, digit: u8) -> Option<usize>
 }
 
 /// The number that decimal digits write.
+// Not by `parse`, which takes a `+` in front: the number of an option has none.
 fn read_number(text: &str) -> Option<usize>
     ensures { result ≡ number_in text.now }
 {
@@ -166,11 +169,9 @@ fn read_number(text: &str) -> Option<usize>
     if digits.is_empty() {
         return None;
     }
-    let mut number = 0;
-    for digit in digits {
-        number = add_digit(number, *digit)?;
-    }
-    Some(number)
+    digits
+        .iter()
+        .fold(Some(0), |number, digit| add_digit(number, *digit))
 }
 
 /// The word behind an option that takes a number.

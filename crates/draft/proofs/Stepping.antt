@@ -8,12 +8,14 @@ use Rattle.records.specs.declared.judge.Flaw.{Flaw}
 use Rattle.records.specs.Record.{judged}
 use Rattle.draft.specs.declared.refusal.Refusal.{Refusal}
 use Rattle.draft.specs.declared.refusal.Refusal.TheVariants.{Misplaced, TooDeep}
+use Rattle.draft.specs.declared.state.BodyKind.{BodyKind}
 use Rattle.draft.specs.declared.state.Bracket.{Bracket}
+use Rattle.draft.specs.declared.manner.Side.TheVariants as side
 use Rattle.draft.specs.declared.manner.Turn.{Turn}
 use Rattle.draft.specs.declared.manner.Turn.TheVariants.{Keep, Push, Swap, Pop}
 use Rattle.draft.specs.Manner.{manner_of, turn_of}
 use Rattle.rules.specs.Module.{Record}
-use Rattle.draft.specs.State.{State, start, step, step_judged, stepped, state, in_place, too_deep, turned, deepens, innermost}
+use Rattle.draft.specs.State.{State, start, step, step_judged, stepped, state, in_place, too_deep, turned, deepens, innermost, waiting_after, on_side}
 use Rattle.draft.specs.Admitted.{image, admitted, admitted_with, Accepted}
 
 pub step_is : (s : State) (r : Record) (k : Kind) → judged r ≡ Ok k → step s r ≡ stepped k r s
@@ -76,6 +78,11 @@ pub accepted_front : (s : State) (m n : List Record) → Accepted s (m ++ n) →
 accepted_front s [] n a = tt
 accepted_front s (x ∷ m) n a = (a.0, accepted_front (step s x) m n a.1)
 
+-- a record that stands outside of bodies comes where none is open
+pub outside_only : (o : Option BodyKind) → on_side o side.Outside ≡ true → o ≡ None
+outside_only None h = refl
+outside_only (Some k) h = absurd cc
+
 pub image_append : (m n : List Record) → image (m ++ n) ≡ image m ++ image n
 image_append m n = flat_map-append (λ r. r) m n
 
@@ -99,13 +106,15 @@ pub record Counted (m : List Record) (s : State) : Type 0 where
   pub used_is : s.used ≡ length (image m)
   pub kept_is : s.kept ≡ length m
   pub deep : length s.brackets ≤ 64
+  pub idle : s.waits ≡ None → s.waiting ≡ []
 
 counted_more : (m : List Record) (s : State) (r : Record) (k : Kind) → Admits s r k → Counted m s → Counted (m ++ r ∷ []) (stepped k r s)
 counted_more m s r k a c = record {
   used_is = ap (λ n. n + length r) c.used_is ∙ sym (image_more m r);
   kept_is = ap (λ n. n + 1) c.kept_is ∙ sym (length-append m (r ∷ []));
   deep = turned_deep (turn_of (innermost s.brackets) (manner_of k).motion) s.brackets a.shallow c.deep;
+  idle = λ e. ap (λ j. waiting_after j s.waiting r) e;
 }
 
 pub counted_so : (m : List Record) → Accepted start m → Counted m (state m)
-counted_so m a = throughout Counted counted_more m a (record { used_is = refl; kept_is = refl; deep = omega arith })
+counted_so m a = throughout Counted counted_more m a (record { used_is = refl; kept_is = refl; deep = omega arith; idle = λ e. refl })

@@ -12,6 +12,7 @@ use Rattle.draft.specs.declared.manner.Turn.TheVariants.{Keep, Push, Swap, Pop}
 use Rattle.draft.specs.declared.manner.Manner.{Manner}
 use Rattle.draft.specs.declared.counts.Lengths.{Lengths}
 use Rattle.draft.specs.declared.stack.Brackets.{Brackets}
+use Rattle.draft.specs.declared.counts.Waiting.{Waiting}
 use Rattle.draft.specs.declared.counts.Counts.{Counts}
 use Rattle.draft.specs.Manner.{turn_of}
 use Rattle.draft.specs.State.{State, number_of_next, table_in, open_after}
@@ -34,9 +35,22 @@ lengths_of s = record {
   inner = number_of_next table.LocalExpressions s;
 }
 
+-- what waits, and how many
+abbrev pub waits_of : Option Pieces → ℕ → Option Waiting
+waits_of None n = None
+waits_of (Some p) n = Some (record { pieces = p; count = n })
+
+abbrev pub pieces_of : Option Waiting → Option Pieces
+pieces_of None = None
+pieces_of (Some w) = Some w.pieces
+
+abbrev pub count_of : Option Waiting → ℕ
+count_of None = 0
+count_of (Some w) = w.count
+
 -- the draft of a state: what the code holds of it
 abbrev pub counts_of : State → Counts
-counts_of s = record { kept = s.kept; used = s.used; lengths = lengths_of s; opened = s.opened; brackets = stack_of s.brackets; waits = s.waits; waiting = length s.waiting }
+counts_of s = record { kept = s.kept; used = s.used; lengths = lengths_of s; opened = s.opened; brackets = stack_of s.brackets; waits = waits_of s.waits (length s.waiting) }
 
 -- the number that the counts give the next item of a table
 abbrev pub counted : Lengths → SlotTable → ℕ
@@ -91,9 +105,9 @@ abbrev pub turned_stack : Brackets → Option Turn → Brackets
 turned_stack b None = b
 turned_stack b (Some t) = stacked b t
 
-abbrev pub waiting_more : Option Pieces → ℕ → ℕ
-waiting_more None n = 0
-waiting_more (Some p) n = n + 1
+-- what waits after a record: one that joins is counted, any other leaves none behind
+abbrev pub waiting_more : Option Pieces → Option Waiting → Option Waiting
+waiting_more w d = waits_of w (count_of d + 1)
 
 -- the counts after one more record of this size
 abbrev pub advanced : Counts → ℕ → Manner → Counts
@@ -103,10 +117,9 @@ advanced d size m = record {
   lengths = moved (counted_more d.lengths (table_in d.opened m.table)) m.motion;
   opened = open_after m.motion d.opened;
   brackets = turned_stack d.brackets (turn_of (top d.brackets) m.motion);
-  waits = m.joins;
-  waiting = waiting_more m.joins d.waiting;
+  waits = waiting_more m.joins d.waits;
 }
 
 -- the counts without what waits, which begins here
 abbrev pub freed : Counts → ℕ → Counts
-freed d from = record d { kept = d.kept - d.waiting; used = from; waits = None; waiting = 0 }
+freed d from = record d { kept = d.kept - count_of d.waits; used = from; waits = None }

@@ -32,6 +32,8 @@ fn statement_motion(statement: Statement) -> Motion
     }
 }
 
+// Four constructors: each sets what is the same for its records, and takes the rest.
+
 /// A record that stands outside of bodies, where nothing waits.
 fn outside(motion: Motion, table: SlotTable) -> Manner
     ensures { result ≡ outside_as None motion table }

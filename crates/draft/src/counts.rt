@@ -5,7 +5,7 @@ ghost use Rattle.draft.specs.declared.manner.Turn.{Turn as AnyTurn};
 ghost use Rattle.draft.specs.Manner.{turn_of};
 ghost use Rattle.draft.specs.State.{start, table_in};
 ghost use Rattle.draft.specs.Stacking.{Turns};
-ghost use Rattle.draft.specs.Counting.{counted, counted_more, moved, top, counts_of, advanced};
+ghost use Rattle.draft.specs.Counting.{counted, counted_more, moved, top, pieces_of, count_of, counts_of, advanced};
 ghost use Rattle.draft.specs.Admitted.{admitted_with};
 
 use crate::behaviour::{is_on_side, manner, meets_what_waits, opened_after, table_in, turn};
@@ -31,6 +31,14 @@ pub struct Lengths {
     pub inner: u32,
 }
 
+/// The records that wait for their taker.
+#[derive(Clone, Copy, PartialEq, Eq, Debug)]
+pub struct Waiting {
+    pub pieces: Pieces,
+    /// How many they are.
+    pub count: usize,
+}
+
 /// What is counted of the records that were kept, and what the next one meets.
 #[derive(Clone, Copy)]
 pub struct Counts {
@@ -40,10 +48,7 @@ pub struct Counts {
     pub lengths: Lengths,
     pub opened: Option<BodyKind>,
     pub brackets: Brackets,
-    pub waits: Option<Pieces>,
-    /// How many records wait.
-    // Beside `waits` and not inside it: it is the length of the list that waits, also where that is empty.
-    pub waiting: usize,
+    pub waits: Option<Waiting>,
 }
 
 impl Lengths {
@@ -113,18 +118,31 @@ impl Counts {
             opened: None,
             brackets: Brackets::new(),
             waits: None,
-            waiting: 0,
         }
+    }
+
+    /// How many records wait.
+    pub fn waiting(&self) -> usize
+        ensures { result ≡ count_of self.now.waits }
+    {
+        self.waits.map_or(0, |waits| waits.count)
+    }
+
+    /// What the next record has to join or take.
+    fn pieces(&self) -> Option<Pieces>
+        ensures { result ≡ pieces_of self.now.waits }
+    {
+        self.waits.map(|waits| waits.pieces)
     }
 
     /// The kind of a record that may come next, or why it may not.
     pub fn admit(&self, bytes: &[u8]) -> Result<Kind, Refusal>
         requires { self.now.brackets.depth ≤ 64 }
-        ensures { result ≡ admitted_with self.now.waits self.now.opened (top self.now.brackets) self.now.brackets.depth (judged bytes.now) }
+        ensures { result ≡ admitted_with (pieces_of self.now.waits) self.now.opened (top self.now.brackets) self.now.brackets.depth (judged bytes.now) }
     {
         let kind = (Record { bytes }).judge()?;
         let ways = manner(kind);
-        if !meets_what_waits(self.waits, ways) || !is_on_side(self.opened, ways.side) {
+        if !meets_what_waits(self.pieces(), ways) || !is_on_side(self.opened, ways.side) {
             return Err(Refusal::Misplaced);
         }
         match turn(self.brackets.innermost(), ways.motion) {
@@ -136,7 +154,7 @@ impl Counts {
 
     /// Counts one more record of this size.
     pub fn advance(&mut self, size: usize, manner: Manner)
-        requires sums { (self.old.used + size < 2 ^ 64) × ((self.old.kept + 1 < 2 ^ 64) × ((self.old.waiting + 1 < 2 ^ 64) × ((counted self.old.lengths (table_in self.old.opened manner.table) + 1 < 2 ^ 32) × (self.old.brackets.depth ≤ 64)))) }
+        requires sums { (self.old.used + size < 2 ^ 64) × ((self.old.kept + 1 < 2 ^ 64) × ((count_of self.old.waits + 1 < 2 ^ 64) × ((counted self.old.lengths (table_in self.old.opened manner.table) + 1 < 2 ^ 32) × (self.old.brackets.depth ≤ 64)))) }
         requires turns { (t : AnyTurn) → turn_of (top self.old.brackets) manner.motion ≡ Some t → Turns self.old.brackets.depth t }
         ensures { self.new ≡ advanced self.old size manner }
     {
@@ -148,11 +166,7 @@ impl Counts {
         if let Some(turn) = turn(self.brackets.innermost(), manner.motion) {
             self.brackets.apply(turn);
         }
-        self.waits = manner.joins;
-        self.waiting = if manner.joins.is_some() {
-            self.waiting + 1
-        } else {
-            0
-        };
+        let count = self.waiting() + 1;
+        self.waits = manner.joins.map(|pieces| Waiting { pieces, count });
     }
 }

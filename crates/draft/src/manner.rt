@@ -14,6 +14,7 @@ pub enum Side {
 pub enum Motion {
     Stay,
     /// From here on this body is open, or none.
+    // No record begins none: the `Option` stays, for without it callers of `Counts::advance` and `Lengths::pass` could pass less.
     Begin(Option<BodyKind>),
     Finish,
     Statement,

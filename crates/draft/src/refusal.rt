@@ -4,6 +4,8 @@ ghost use Rattle.draft.specs.declared.refusal.Refusal.TheVariants.{Flawed};
 ghost use Rattle.draft.specs.Admitted.{refusal_number};
 
 use records::judge::Flaw;
+use std::fmt;
+use std::fmt::Display;
 
 /// In the order in which they are tested.
 #[derive(Clone, Copy, PartialEq, Eq, Debug)]
@@ -30,6 +32,20 @@ impl Refusal {
             Refusal::TooDeep => 5,
             Refusal::Full => 6,
         }
+    }
+}
+
+/// In words.
+impl Display for Refusal {
+    fn fmt<W: fmt::Write>(&self, f: &mut fmt::Formatter<W>) -> fmt::Result {
+        f.write_str(match self {
+            Refusal::Flawed(Flaw::NoSuchKind) => "no kind has this number",
+            Refusal::Flawed(Flaw::WrongLength) => "not as long as its kind fixes",
+            Refusal::Flawed(Flaw::BadField) => "a field holds what it may not",
+            Refusal::Misplaced => "it may not stand here",
+            Refusal::TooDeep => "64 brackets are open",
+            Refusal::Full => "too few bytes, no slot or no number is left",
+        })
     }
 }
 

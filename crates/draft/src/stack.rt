@@ -8,7 +8,7 @@ use crate::manner::Turn;
 use crate::state::Bracket;
 
 /// The open brackets, the innermost last; free places hold a filler.
-// An array and a depth: `Counts` is `Copy`, which the `ArrayVec` of the toolchain is not.
+// An array and a depth: a draft gives its `Counts` by value to callers that put afterwards, and an `ArrayVec` is not `Copy`.
 // No ghost field holds `depth ≤ 64`: `stack_of` and `stacked` are total, and would have to be passed its proof.
 #[derive(Clone, Copy)]
 pub struct Brackets {

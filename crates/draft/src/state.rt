@@ -28,6 +28,7 @@ pub enum Pieces {
 
 /// The table that numbers a record. The last two are those of the open body; a record that waits for
 /// its taker is `Taken`.
+// Beside `Table`: records without a number have one too, and a body's expressions are told from the module's.
 #[derive(Clone, Copy, PartialEq, Eq, Debug)]
 pub enum SlotTable {
     Unnumbered,

@@ -28,6 +28,7 @@ fn byte(pair: &[u8; 2]) -> Option<u8>
 
 /// The bytes that pairs of digits write, from the front; a pair that is none is left out, and so is
 /// an odd last digit.
+// Not by `hex` of the toolchain, which also takes upper case, and refuses any text with such a pair or digit.
 pub fn decode(heap: Global, text: &str) -> Result<Vec<u8>, AllocError>
     ensures { IfOk result (λ bytes. bytes.items ≡ decoded text.now) }
 {

@@ -1,6 +1,8 @@
 -- One record more: every table keeps its items, and the item that the record makes is where its number says.
 use Rattle.std.proofs.Common.{◌≡◌, ℕ, ◌+◌, true, ◌⊎◌, List, [], ◌∷◌, ◌++◌, map, length, Some, None, sym, refl, ap, ◌∙◌, subst, inl, inr, ⊎_elim, arith, Option}
 use Rattle.std.specs.List.{slice_get}
+use Rattle.std.specs.Option.{option_map}
+use Rattle.std.proofs.lemmas.Option.{slice_get-map}
 use Rattle.std.proofs.lemmas.Bool.{and_parts}
 use Rattle.ir.specs.declared.handle.Handle.{Handle}
 use Rattle.ir.specs.declared.handle.Table.{Table}
@@ -13,15 +15,14 @@ use Rattle.draft.specs.declared.state.BodyKind.{BodyKind}
 use Rattle.draft.specs.declared.state.BodyKind.TheVariants as body_kind
 use Rattle.draft.specs.declared.state.Bracket.{Bracket}
 use Rattle.draft.specs.declared.state.Pieces.{Pieces}
-use Rattle.draft.specs.declared.manner.Side.TheVariants as side
 use Rattle.draft.specs.Manner.{manner_of}
 use Rattle.draft.specs.State.{State, stepped, item_of, on_side, open_after, functions_now, entries_now, module_after, body_after, number_of_next, table_of}
 use Rattle.draft.proofs.Tallying.{statement_stays}
-use Rattle.draft.proofs.Stepping.{Admits}
+use Rattle.draft.proofs.Stepping.{Admits, outside_only}
 use Rattle.arena.specs.Answer.{Answer, answered}
 use Rattle.arena.specs.Viewing.{body_items, items_in}
 use Rattle.history.specs.Homes.{home_of}
-use Rattle.history.proofs.Keeping.{nth_push, nth_map, keeps_same, keeps_push, parts_of, BodyOn, parts_same, BodiesOn, bodies_front, bodies_last, bodies_same, tables_of, TablesOn, tables_same, StateOn}
+use Rattle.history.proofs.Keeping.{nth_push, keeps_same, keeps_push, parts_of, BodyOn, parts_same, BodiesOn, bodies_front, bodies_last, bodies_same, tables_of, TablesOn, tables_same, StateOn}
 
 -- what a record does to the bodies
 data Goes (o : Option BodyKind) (m : Module) (b : Body) (o' : Option BodyKind) (m' : Module) (b' : Body) : Type 0 where
@@ -29,69 +30,29 @@ data Goes (o : Option BodyKind) (m : Module) (b : Body) (o' : Option BodyKind) (
   opens : o ≡ None → m'.functions ≡ m.functions → m'.entries ≡ m.entries → Goes o m b o' m' b'
   ends : (c : Body) → BodyOn b c → o' ≡ None → m'.functions ≡ functions_now o m c → m'.entries ≡ entries_now o m c → Goes o m b o' m' b'
 
-outside_only : (o : Option BodyKind) → on_side o side.Outside ≡ true → o ≡ None
-outside_only None h = refl
-outside_only (Some body_kind.Function) h = absurd cc
-outside_only (Some body_kind.EntryPoint) h = absurd cc
-
 module _ (m : Module) (b : Body) (i : Item) where
   goes_at : (k : Kind) (o : Option BodyKind) → on_side o (manner_of k).side ≡ true → Goes o m b (open_after (manner_of k).motion o) (module_after k o b i m) (body_after k o i b)
-  goes_at kind.Member o h = stays refl refl refl (parts_same (parts_of b))
-  goes_at kind.Operand o h = stays refl refl refl (parts_same (parts_of b))
-  goes_at kind.Override o h = stays refl refl refl (parts_same (parts_of b))
-  goes_at kind.Constant o h = stays refl refl refl (parts_same (parts_of b))
-  goes_at kind.GlobalVariable o h = stays refl refl refl (parts_same (parts_of b))
-  goes_at kind.SpecialTypes o h = stays refl refl refl (parts_same (parts_of b))
-  goes_at kind.Predeclared o h = stays refl refl refl (parts_same (parts_of b))
-  goes_at kind.Filter o h = stays refl refl refl (parts_same (parts_of b))
-  goes_at kind.Leaf o h = stays refl refl refl (parts_same (parts_of b))
   goes_at kind.Function o h = opens (outside_only o h) refl refl
-  goes_at kind.EntryPoint o h = opens (outside_only o h) refl refl
   goes_at kind.FunctionArgument o h = stays refl refl refl (parts_same (parts_of b))
   goes_at kind.FunctionResult o h = stays refl refl refl (parts_same (parts_of b))
+  goes_at kind.EntryPoint o h = opens (outside_only o h) refl refl
   goes_at kind.LocalVariable o h = stays refl refl refl (record { opener = refl; locals = keeps_push b.locals i; expressions = keeps_same b.expressions })
-  goes_at (kind.Type t) o h = stays refl refl refl (parts_same (parts_of b))
-  goes_at kind.Named o h = stays refl refl refl (parts_same (parts_of b))
-  goes_at kind.EndFunction None h = ends (closed b i) (parts_same (parts_of b)) refl refl refl
   goes_at kind.EndFunction (Some body_kind.Function) h = ends (closed b i) (parts_same (parts_of b)) refl refl refl
-  goes_at kind.EndFunction (Some body_kind.EntryPoint) h = ends (closed b i) (parts_same (parts_of b)) refl refl refl
-  goes_at (kind.Expression e) None h = stays refl refl refl (parts_same (parts_of b))
-  goes_at (kind.Expression e) (Some body_kind.Function) h = stays refl refl refl (record { opener = refl; locals = keeps_same b.locals; expressions = keeps_push b.expressions i })
-  goes_at (kind.Expression e) (Some body_kind.EntryPoint) h = stays refl refl refl (record { opener = refl; locals = keeps_same b.locals; expressions = keeps_push b.expressions i })
+  goes_at kind.EndFunction o h = ends (closed b i) (parts_same (parts_of b)) refl refl refl
+  goes_at (kind.Expression e) (Some x) h = stays refl refl refl (record { opener = refl; locals = keeps_same b.locals; expressions = keeps_push b.expressions i })
   goes_at (kind.Statement c) o h = stays (statement_stays c o) refl refl (parts_same (parts_of b))
-  goes_at kind.End o h = stays refl refl refl (parts_same (parts_of b))
-  goes_at kind.EndLoop o h = stays refl refl refl (parts_same (parts_of b))
-  goes_at kind.Case o h = stays refl refl refl (parts_same (parts_of b))
-  goes_at kind.EndSwitch o h = stays refl refl refl (parts_same (parts_of b))
+  goes_at k o h = stays refl refl refl (parts_same (parts_of b))
 
   tables_at : (k : Kind) (o : Option BodyKind) → TablesOn (tables_of m) (tables_of (module_after k o b i m))
-  tables_at kind.Member o = tables_same (tables_of m)
-  tables_at kind.Operand o = tables_same (tables_of m)
   tables_at kind.Override o = record { types = keeps_same m.types; overrides = keeps_push m.overrides i; constants = keeps_same m.constants; globals = keeps_same m.globals; filters = keeps_same m.filters; expressions = keeps_same m.expressions }
   tables_at kind.Constant o = record { types = keeps_same m.types; overrides = keeps_same m.overrides; constants = keeps_push m.constants i; globals = keeps_same m.globals; filters = keeps_same m.filters; expressions = keeps_same m.expressions }
   tables_at kind.GlobalVariable o = record { types = keeps_same m.types; overrides = keeps_same m.overrides; constants = keeps_same m.constants; globals = keeps_push m.globals i; filters = keeps_same m.filters; expressions = keeps_same m.expressions }
-  tables_at kind.SpecialTypes o = tables_same (tables_of m)
-  tables_at kind.Predeclared o = tables_same (tables_of m)
   tables_at kind.Filter o = record { types = keeps_same m.types; overrides = keeps_same m.overrides; constants = keeps_same m.constants; globals = keeps_same m.globals; filters = keeps_push m.filters i; expressions = keeps_same m.expressions }
-  tables_at kind.Leaf o = tables_same (tables_of m)
-  tables_at kind.Function o = tables_same (tables_of m)
-  tables_at kind.EntryPoint o = tables_same (tables_of m)
-  tables_at kind.FunctionArgument o = tables_same (tables_of m)
-  tables_at kind.FunctionResult o = tables_same (tables_of m)
-  tables_at kind.LocalVariable o = tables_same (tables_of m)
   tables_at (kind.Type t) o = record { types = keeps_push m.types i; overrides = keeps_same m.overrides; constants = keeps_same m.constants; globals = keeps_same m.globals; filters = keeps_same m.filters; expressions = keeps_same m.expressions }
-  tables_at kind.Named o = tables_same (tables_of m)
-  tables_at kind.EndFunction None = tables_same (tables_of m)
   tables_at kind.EndFunction (Some body_kind.Function) = tables_same (tables_of m)
-  tables_at kind.EndFunction (Some body_kind.EntryPoint) = tables_same (tables_of m)
   tables_at (kind.Expression e) None = record { types = keeps_same m.types; overrides = keeps_same m.overrides; constants = keeps_same m.constants; globals = keeps_same m.globals; filters = keeps_same m.filters; expressions = keeps_push m.expressions i }
   tables_at (kind.Expression e) (Some body_kind.Function) = tables_same (tables_of m)
-  tables_at (kind.Expression e) (Some body_kind.EntryPoint) = tables_same (tables_of m)
-  tables_at (kind.Statement c) o = tables_same (tables_of m)
-  tables_at kind.End o = tables_same (tables_of m)
-  tables_at kind.EndLoop o = tables_same (tables_of m)
-  tables_at kind.Case o = tables_same (tables_of m)
-  tables_at kind.EndSwitch o = tables_same (tables_of m)
+  tables_at k o = tables_same (tables_of m)
 
 -- a list of bodies, and the same with the open body at its end where that is of its sort
 module _ (list : Module → List Body) (now : Option BodyKind → Module → Body → List Body)
@@ -140,7 +101,7 @@ step_on s r k a =
     record { tables = tables_at s.built s.body (item_of s r) k s.opened; functions = functions_go goes; entries = entries_go goes }
 
 opener_last : (bs : List Body) (i : Item) → slice_get (map (λ b. b.opener) (bs ++ opened_by i ∷ [])) (length bs + 0) ≡ Some i
-opener_last bs i = let e : length bs + 0 ≡ length bs = omega arith in ap (slice_get (map (λ b. b.opener) (bs ++ opened_by i ∷ []))) e ∙ nth_map (λ b. b.opener) (bs ++ opened_by i ∷ []) (length bs) (opened_by i) (nth_push bs (opened_by i))
+opener_last bs i = let e : length bs + 0 ≡ length bs = omega arith in ap (slice_get (map (λ b. b.opener) (bs ++ opened_by i ∷ []))) e ∙ slice_get-map (λ b. b.opener) (bs ++ opened_by i ∷ []) (length bs) ∙ ap (option_map (λ b. b.opener)) (nth_push bs (opened_by i))
 
 -- the last of the last body's items
 local_last : (bs : List Body) (b : Body) (i : Item) → slice_get (body_items handles.LocalVariables (slice_get (bs ++ add_local b i ∷ []) (length bs))) (length b.locals) ≡ Some i
@@ -170,37 +131,19 @@ module _ (m : Module) (b : Body) (bs : List Bracket) (w : Option Pieces) (ws : L
   new = record { place = n; bytes = r; taken = ws }
 
   placed_at : (k : Kind) (o : Option BodyKind) → on_side o (manner_of k).side ≡ true → Placed (at o) r k
-  placed_at kind.Member o s = λ h e. absurd cc
-  placed_at kind.Operand o s = λ h e. absurd cc
   placed_at kind.Override o s = λ h e. nth_push m.overrides new
   placed_at kind.Constant o s = λ h e. nth_push m.constants new
   placed_at kind.GlobalVariable o s = λ h e. nth_push m.globals new
-  placed_at kind.SpecialTypes o s = λ h e. absurd cc
-  placed_at kind.Predeclared o s = λ h e. absurd cc
   placed_at kind.Filter o s = λ h e. nth_push m.filters new
-  placed_at kind.Leaf o s = λ h e. absurd cc
   placed_at kind.Function None s = λ h e. opener_last m.functions new
-  placed_at kind.Function (Some body_kind.Function) s = absurd cc
-  placed_at kind.Function (Some body_kind.EntryPoint) s = absurd cc
   placed_at kind.EntryPoint None s = λ h e. opener_last m.entries new
-  placed_at kind.EntryPoint (Some body_kind.Function) s = absurd cc
-  placed_at kind.EntryPoint (Some body_kind.EntryPoint) s = absurd cc
-  placed_at kind.FunctionArgument o s = λ h e. absurd cc
-  placed_at kind.FunctionResult o s = λ h e. absurd cc
-  placed_at kind.LocalVariable None s = absurd cc
   placed_at kind.LocalVariable (Some body_kind.Function) s = λ h e. local_last m.functions b new
   placed_at kind.LocalVariable (Some body_kind.EntryPoint) s = λ h e. local_last m.entries b new
   placed_at (kind.Type t) o s = λ h e. nth_push m.types new
-  placed_at kind.Named o s = λ h e. absurd cc
-  placed_at kind.EndFunction o s = λ h e. absurd cc
   placed_at (kind.Expression e) None s = λ h is. nth_push m.expressions new
   placed_at (kind.Expression e) (Some body_kind.Function) s = λ h is. inner_last m.functions b new
   placed_at (kind.Expression e) (Some body_kind.EntryPoint) s = λ h is. inner_last m.entries b new
-  placed_at (kind.Statement c) o s = λ h e. absurd cc
-  placed_at kind.End o s = λ h e. absurd cc
-  placed_at kind.EndLoop o s = λ h e. absurd cc
-  placed_at kind.Case o s = λ h e. absurd cc
-  placed_at kind.EndSwitch o s = λ h e. absurd cc
+  placed_at k o s = λ h e. absurd cc
 
 pub home_has : (s : State) (r : Record) (k : Kind) → Admits s r k → (h : Handle) → answered (table_of s k) (number_of_next (table_of s k) s) ≡ Some h
     → slice_get (items_in (home_of s k) (handle_table h) (stepped k r s)) (number_of_next (table_of s k) s) ≡ Some (item_of s r)

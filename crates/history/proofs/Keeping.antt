@@ -1,6 +1,8 @@
 -- Items keep their numbers: from one list to another, from one body to another, and from one state to another.
-use Rattle.std.proofs.Common.{◌≡◌, ℕ, zero, suc, List, [], ◌∷◌, ◌++◌, map, length, Some, None, Option, sym, refl, ap, ◌∙◌, subst, arith}
+use Rattle.std.proofs.Common.{◌≡◌, ℕ, zero, suc, List, [], ◌∷◌, ◌++◌, map, length, Some, None, Option, sym, refl, ap, ◌∙◌, subst}
 use Rattle.std.specs.List.{slice_get}
+use Rattle.std.specs.Option.{option_map}
+use Rattle.std.proofs.lemmas.Option.{slice_get-map}
 use Rattle.ir.specs.declared.handle.Table.{Table}
 use Rattle.ir.specs.declared.handle.Table.TheVariants as handles
 use Rattle.rules.specs.Module.{Item, Body, Module}
@@ -20,11 +22,6 @@ module _ {X : Type 0} where
   nth_push (y ∷ xs) x = nth_push xs x
 
 module _ {X Y : Type 0} (f : X → Y) where
-  pub nth_map : (xs : List X) (n : ℕ) (x : X) → slice_get xs n ≡ Some x → slice_get (map f xs) n ≡ Some (f x)
-  nth_map [] n x e = absurd cc
-  nth_map (y ∷ xs) zero x e = let same : y ≡ x = cc in ap (λ z. Some (f z)) same
-  nth_map (y ∷ xs) (suc n) x e = nth_map xs n x e
-
   map_nth : (xs : List X) (n : ℕ) (y : Y) → slice_get (map f xs) n ≡ Some y → (x : X) × (slice_get xs n ≡ Some x) × (f x ≡ y)
   map_nth [] n y e = absurd cc
   map_nth (x ∷ xs) zero y e = (x, refl, cc)
@@ -78,18 +75,12 @@ openers_keep : (xs ys : List Body) → BodiesOn xs ys → Keeps (map (λ b. b.op
 openers_keep xs ys on n x e =
     let b = map_nth (λ b. b.opener) xs n x e in
     let c = on n b.0 b.1 in
-    nth_map (λ b. b.opener) ys n c.0 c.1 ∙ ap Some (sym c.2.opener ∙ b.2)
+    slice_get-map (λ b. b.opener) ys n ∙ ap (option_map (λ b. b.opener)) c.1 ∙ ap Some (sym c.2.opener ∙ b.2)
 
 body_keeps : (t : Table) (b c : Body) → BodyOn b c → Keeps (body_items t (Some b)) (body_items t (Some c))
-body_keeps handles.Types b c on = keeps_same []
-body_keeps handles.Constants b c on = keeps_same []
-body_keeps handles.Overrides b c on = keeps_same []
-body_keeps handles.GlobalVariables b c on = keeps_same []
 body_keeps handles.LocalVariables b c on = on.locals
 body_keeps handles.Expressions b c on = on.expressions
-body_keeps handles.Functions b c on = keeps_same []
-body_keeps handles.Filters b c on = keeps_same []
-body_keeps handles.EntryPoints b c on = keeps_same []
+body_keeps t b c on = keeps_same []
 
 any_body_keeps : (t : Table) (p q : Option Body) → ((b : Body) → p ≡ Some b → (c : Body) × (q ≡ Some c) × BodyOn b c) → Keeps (body_items t p) (body_items t q)
 any_body_keeps t None q on = λ n x e. absurd cc

@@ -38,33 +38,13 @@ use Rattle.history.proofs.Knowing.{known_stays, known_next, known_names, known_l
 answered_index : (t : SlotTable) (n : ℕ) (h : Handle) → answered t n ≡ Some h → n ≡ index_of h
 answered_index table.Unnumbered n h e = absurd cc
 answered_index table.Taken n h e = absurd cc
-answered_index table.Types n h e = ap answer_number e
-answered_index table.Overrides n h e = ap answer_number e
-answered_index table.Constants n h e = ap answer_number e
-answered_index table.GlobalVariables n h e = ap answer_number e
-answered_index table.Filters n h e = ap answer_number e
-answered_index table.Expressions n h e = ap answer_number e
-answered_index table.Functions n h e = ap answer_number e
-answered_index table.EntryPoints n h e = ap answer_number e
-answered_index table.LocalVariables n h e = ap answer_number e
-answered_index table.LocalExpressions n h e = ap answer_number e
+answered_index t n h e = ap answer_number e
 
 -- only of the types is a type's handle
 answered_type : (o : Option BodyKind) (t : SlotTable) (n : ℕ) (h : TypeHandle) → answered (table_in o t) n ≡ Some (handle.Type h) → t ≡ table.Types
-answered_type o table.Unnumbered n h e = absurd cc
-answered_type o table.Taken n h e = absurd cc
 answered_type o table.Types n h e = refl
-answered_type o table.Overrides n h e = absurd cc
-answered_type o table.Constants n h e = absurd cc
-answered_type o table.GlobalVariables n h e = absurd cc
-answered_type o table.Filters n h e = absurd cc
-answered_type None table.Expressions n h e = absurd cc
 answered_type (Some body_kind.Function) table.Expressions n h e = absurd cc
-answered_type (Some body_kind.EntryPoint) table.Expressions n h e = absurd cc
-answered_type o table.Functions n h e = absurd cc
-answered_type o table.EntryPoints n h e = absurd cc
-answered_type o table.LocalVariables n h e = absurd cc
-answered_type o table.LocalExpressions n h e = absurd cc
+answered_type o t n h e = absurd cc
 
 bare_on : (s : State) (front : List Record) → StateOn s (bare s front)
 bare_on s front = record { tables = tables_same (tables_of s.built); functions = bodies_same (functions_now s.opened s.built s.body); entries = bodies_same (entries_now s.opened s.built s.body) }

@@ -17,18 +17,9 @@ home_open (Some body_kind.EntryPoint) s = home.EntryPoint (length s.built.entrie
 
 -- where a record is numbered that comes next: in the open body, if its table is one of a body
 abbrev pub home_in : State → SlotTable → Home
-home_in s table.Unnumbered = home.Module
-home_in s table.Taken = home.Module
-home_in s table.Types = home.Module
-home_in s table.Overrides = home.Module
-home_in s table.Constants = home.Module
-home_in s table.GlobalVariables = home.Module
-home_in s table.Filters = home.Module
-home_in s table.Expressions = home.Module
-home_in s table.Functions = home.Module
-home_in s table.EntryPoints = home.Module
 home_in s table.LocalVariables = home_open s.opened s
 home_in s table.LocalExpressions = home_open s.opened s
+home_in s t = home.Module
 
 abbrev pub home_of : State → Kind → Home
 home_of s k = home_in s (table_of s k)

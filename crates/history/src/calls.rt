@@ -3,6 +3,7 @@ use draft::refusal::Refusal;
 use ir::handle::Handle;
 
 /// A call on a draft.
+// Not a closure: a list of calls is data that a caller gives. Further calls will be further cases.
 #[derive(Clone, Copy)]
 pub enum Call<'a> {
     Put(&'a [u8]),

@@ -11,7 +11,7 @@ use arena::Draft;
 use arena::slot::Slot;
 
 /// Makes one call.
-// Put is lent its memory on each call, so draft, bytes and slots are parameters here too.
+// Lent on each call; a struct of the three must also promise that its references stay: no plainer.
 fn make(call: Call<'_>, draft: &mut Draft, bytes: &mut [u8], slots: &mut [Slot]) -> Outcome
     requires { Stands draft.old bytes.old slots.old }
     ensures stands { Stands draft.new bytes.new slots.new }
@@ -36,7 +36,7 @@ pub fn replay(
     let mut draft = Draft::new();
     let made = &calls[..calls.len().min(answers.len())];
     for (place, call) in made.iter().enumerate() {
-        // By index: nothing is known of the elements that `iter_mut` has given out.
+        // By index: after `zip`, a proof knows nothing of the elements of `iter_mut`.
         answers[place] = Some(make(*call, &mut draft, bytes, slots));
     }
     draft

@@ -3,3 +3,4 @@ pub mod Range
 pub mod Field
 pub mod Layout
 pub mod Number
+pub mod Name

@@ -82,6 +82,7 @@ impl Word {
 
 impl Cases {
     /// How many words follow the case byte.
+    // Apart from `case`: a field is as wide where its byte is no case.
     pub fn words(self) -> usize
         ensures { result ≡ words_of self }
     {
@@ -99,6 +100,7 @@ impl Cases {
     }
 
     /// The words of a case, counted from 0 in order of declaration.
+    // By the byte that a record holds: nine enums of cases would only be made to look up a row.
     pub fn case(self, byte: u8) -> Option<&'static [Word]>
         ensures row { MatchOption result (slice_get (cases_of self) byte ≡ None) (λ ws. slice_get (cases_of self) byte ≡ Some ws.now) }
         ensures few { IfSome result (λ ws. length ws.now ≤ 8) }

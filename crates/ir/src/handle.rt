@@ -60,6 +60,7 @@ pub struct HandleIn<T> {
 pub type ExpressionHandle = HandleIn<tables::Expressions>;
 
 /// A handle of any table.
+// A case for each table, so that a match on it has handles of that table.
 #[derive(Clone, Copy)]
 pub enum Handle {
     Type(HandleIn<tables::Types>),

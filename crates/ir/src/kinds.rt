@@ -35,7 +35,7 @@ const OPTIONAL_EXPRESSION: Field = Field::Word(Word::Optional(Table::Expressions
 const OPTIONAL_FILTER: Field = Field::Word(Word::Optional(Table::Filters));
 
 /// What a record says; a type, an expression and a statement have kinds of their own.
-#[derive(Clone, Copy, Debug)]
+#[derive(Clone, Copy)]
 pub enum Kind {
     Member,
     Operand,
@@ -63,7 +63,7 @@ pub enum Kind {
 }
 
 /// In order of declaration.
-#[derive(Clone, Copy, Debug)]
+#[derive(Clone, Copy)]
 pub enum TypeInner {
     Scalar,
     Vector,
@@ -82,7 +82,7 @@ pub enum TypeInner {
 }
 
 /// In order of declaration.
-#[derive(Clone, Copy, Debug)]
+#[derive(Clone, Copy)]
 pub enum Expression {
     Literal,
     Constant,
@@ -121,7 +121,7 @@ pub enum Expression {
 }
 
 /// In order of declaration.
-#[derive(Clone, Copy, Debug)]
+#[derive(Clone, Copy)]
 pub enum Statement {
     Emit,
     Block,
@@ -157,7 +157,6 @@ fn total_width(fields: &[Field]) -> usize
 
 impl Kind {
     /// The fields of the body, in order.
-    // `short` stands in each of the four contracts: a type around the slice would be opened at every use.
     pub fn layout(self) -> &'static [Field]
         ensures fields { result.now ≡ layout self }
         ensures short { length result.now ≤ 11 }
@@ -218,8 +217,7 @@ impl Kind {
 impl TypeInner {
     /// The name, and then the fields in order of declaration.
     fn layout(self) -> &'static [Field]
-        ensures fields { result.now ≡ type_layout self }
-        ensures short { length result.now ≤ 11 }
+        ensures { result.now ≡ type_layout self }
     {
         match self {
             TypeInner::Scalar => &[MARK, MARK],
@@ -243,8 +241,7 @@ impl TypeInner {
 impl Expression {
     /// The fields in order of declaration.
     fn layout(self) -> &'static [Field]
-        ensures fields { result.now ≡ expression_layout self }
-        ensures short { length result.now ≤ 11 }
+        ensures { result.now ≡ expression_layout self }
     {
         match self {
             Expression::Literal => &[MARK],
@@ -310,8 +307,7 @@ impl Expression {
 impl Statement {
     /// The fields in order of declaration, blocks and lists omitted.
     fn layout(self) -> &'static [Field]
-        ensures fields { result.now ≡ statement_layout self }
-        ensures short { length result.now ≤ 11 }
+        ensures { result.now ≡ statement_layout self }
     {
         match self {
             Statement::Emit => &[NUMBER, NUMBER],

@@ -106,6 +106,8 @@ impl Kind {
     }
 }
 
+// No derive gives the cases of an enum as a list. By the contract of `try_from` each list `ALL` is that of
+// the definition.
 impl TypeInner {
     /// In order of declaration.
     const ALL: [TypeInner; 14] = [

@@ -5,6 +5,7 @@ ghost use Rattle.ir.specs.Range.{ends};
 use crate::handle::{ExpressionHandle, HandleIn};
 
 /// From `start` up to `end`, which is not in it: empty unless `start` is below `end`.
+// Not the library's `Range`, which is an iterator and not `Copy`.
 #[derive(Clone, Copy)]
 pub struct Range {
     pub start: u32,

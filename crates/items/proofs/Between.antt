@@ -1,5 +1,5 @@
 -- Items place by place.
-use Rattle.std.proofs.Common.{◌≡◌, ℕ, zero, suc, ◌+◌, ◌-◌, ◌<◌, ◌≤◌, Bool, true, false, cond, List, [], ◌∷◌, ◌++◌, length, get_or, take, drop, Some, fold, sym, refl, ap, ◌∙◌, append-nil, arith}
+use Rattle.std.proofs.Common.{◌≡◌, ℕ, suc, ◌+◌, ◌-◌, ◌<◌, ◌≤◌, Bool, true, false, cond, List, [], ◌∷◌, ◌++◌, length, get_or, take, drop, Some, fold, sym, refl, ap, ◌∙◌, append-nil, arith, subst, take-append-drop}
 use Rattle.std.specs.List.{slice_get}
 use Rattle.std.proofs.lemmas.List.{at_drop_more, at_drop_all, get_or-take, length-take-le, length-take, drop-take, drop-drop, length_push}
 use Rattle.std.proofs.Math.Seq.{take-add}
@@ -9,7 +9,7 @@ use Rattle.std.proofs.lemmas.Bool.{cond-true, cond-false}
 use Rattle.rules.specs.Module.{Record}
 use Rattle.draft.specs.State.{State, start, step, state, item_of}
 use Rattle.draft.specs.Admitted.{Accepted}
-use Rattle.draft.proofs.Stepping.{counted_so}
+use Rattle.draft.proofs.Stepping.{counted_so, accepted_front}
 use Rattle.arena.specs.declared.slot.Slot.{Slot}
 use Rattle.arena.proofs.Finding.{state_more}
 use Rattle.items.specs.declared.section.Section.{Section}
@@ -21,13 +21,7 @@ within_next m x r e = let l = slice_get_within m x r e in omega arith
 
 -- accepted records have accepted fronts
 pub front : (m : List Record) (x : ℕ) → Accepted start m → Accepted start (take x m)
-front m x a = front_from start m x a
-  where
-    front_from : (s : State) (m : List Record) (x : ℕ) → Accepted s m → Accepted s (take x m)
-    front_from s [] zero a = tt
-    front_from s [] (suc x) a = tt
-    front_from s (r ∷ m) zero a = tt
-    front_from s (r ∷ m) (suc x) a = (a.0, front_from (step s r) m x a.1)
+front m x a = accepted_front start (take x m) (drop x m) (subst (Accepted start) (sym (take-append-drop x m)) a)
 
 -- as many records stand before a place as its number says
 pub kept_at : (m : List Record) (x : ℕ) → Accepted start m → x ≤ length m → (state (take x m)).kept ≡ x

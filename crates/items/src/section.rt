@@ -10,7 +10,7 @@ pub enum Section {
     /// The items that a table numbers.
     Numbered(SlotTable),
     /// Those whose kinds have these numbers, both included.
-    // Bytes as they stand in a record, and no `Kind`s: any two are allowed, also numbers of no kind.
+    // Bytes and no `Kind`s, which would ask more of callers: any two bytes may be given.
     Kinds(u8, u8),
 }
 

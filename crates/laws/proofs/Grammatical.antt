@@ -17,7 +17,7 @@ use Rattle.draft.specs.Manner.{manner_of, turn_of}
 use Rattle.draft.specs.State.{State, start, stepped, state, innermost, turned, on_side, meets, item_of, module_after, body_after}
 use Rattle.draft.specs.Admitted.{Accepted}
 use Rattle.draft.proofs.Tallying.{statement_stays}
-use Rattle.draft.proofs.Stepping.{Admits, throughout}
+use Rattle.draft.proofs.Stepping.{Admits, throughout, outside_only}
 use Rattle.rules.specs.Module.{Record, Item, Body, Module, closed}
 use Rattle.laws.specs.Grammar.{Block, kinds, Grammatical}
 use Rattle.laws.specs.Grammar.Block.{nothing}
@@ -53,10 +53,6 @@ not_outside None bs h e = absurd cc
 not_outside (Some k) bs h e = absurd cc
 
 -- outside of every body none is
-is_outside : (o : Option BodyKind) → on_side o side.Outside ≡ true → o ≡ None
-is_outside None h = refl
-is_outside (Some k) h = absurd cc
-
 -- where a body may end, no bracket is open
 no_bracket : (bs : List Bracket) → is_some (turn_of (innermost bs) motion.Finish) ≡ true → bs ≡ []
 no_bracket [] h = refl
@@ -112,10 +108,10 @@ module _ (s : State) (r : Record) (w : Running s) where
   -- each record keeps it
   next : (k : Kind) → Admits s r k → Running (stepped k r s)
   next kind.Function a =
-      let none = w.outside (is_outside s.opened (placed s r kind.Function a).on) in
+      let none = w.outside (outside_only s.opened (placed s r kind.Function a).on) in
       record { functions = w.functions; entries = w.entries; so_far = λ tail c. subst (λ l. Closing l tail) none c; outside = λ o. none }
   next kind.EntryPoint a =
-      let none = w.outside (is_outside s.opened (placed s r kind.EntryPoint a).on) in
+      let none = w.outside (outside_only s.opened (placed s r kind.EntryPoint a).on) in
       record { functions = w.functions; entries = w.entries; so_far = λ tail c. subst (λ l. Closing l tail) none c; outside = λ o. none }
   next kind.EndFunction a =
       let p = placed s r kind.EndFunction a in

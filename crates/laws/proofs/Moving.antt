@@ -12,7 +12,6 @@ use Rattle.draft.specs.declared.state.BodyKind.{BodyKind}
 use Rattle.draft.specs.declared.state.BodyKind.TheVariants as body_kind
 use Rattle.draft.specs.declared.state.Pieces.{Pieces}
 use Rattle.draft.specs.declared.state.Pieces.TheVariants as pieces
-use Rattle.draft.specs.declared.manner.Side.TheVariants as side
 use Rattle.draft.specs.Manner.{manner_of}
 use Rattle.rules.specs.Module.{Item, Body, Module, nobody, opened_by, add_type, add_override, add_constant, add_global, set_special, add_predeclared, add_filter, set_leaf, add_expression, add_function, add_entry, add_argument, set_result, add_local, add_named, add_inner, add_statement, closed}
 use Rattle.draft.specs.State.{on_side, open_after, module_after, body_after}

@@ -21,6 +21,7 @@ use owned::owned::OwnedDraft;
 use std::alloc::{AllocError, Global};
 
 /// What a draft answers to a record: the item that it is, if it is numbered, or why it is refused.
+// Beside `Denial`: here a refusal is an answer to show, and only want of memory an error.
 pub type Outcome = Result<Option<Handle>, Refusal>;
 
 /// A draft with its memory.
@@ -105,8 +106,7 @@ impl AnyDraft for OwnedDraft {
     }
 
     fn view(&self) -> View<'_> {
-        let (draft, bytes, slots) = self.parts();
-        draft.view(bytes, slots)
+        OwnedDraft::view(self)
     }
 }
 

@@ -70,6 +70,7 @@ impl Inputs<'_> {
     }
 
     /// Reports one input; whether it could be read.
+    // A `bool` and no error: what went wrong is written here, and the other inputs follow.
     fn report_input(&self, name: &str, word: Word) -> io::Result<bool> {
         let read = match word {
             Word::StandardInput => read_input(self.rt),
@@ -88,6 +89,7 @@ impl Inputs<'_> {
     }
 
     /// Reports every input that the words behind the command name; whether all could be read.
+    // The words are read again for the names: the options are `Copy` and hold no text.
     fn report_all(&self, words: &[String]) -> io::Result<bool> {
         if !self.options.named {
             return self.report_input("-", Word::StandardInput);

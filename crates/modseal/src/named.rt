@@ -1,34 +1,27 @@
 //! What each number names.
+use arena::answer::handle_table;
 use arena::view::View;
 use draft::state::SlotTable;
+use ir::handle::Table;
 use ir::kinds::Kind;
 use records::image::Record;
 use std::fmt::Display;
 use std::io::Write;
 use std::{fmt, io};
 
-/// What the numbers of a slot's table are numbers of, if it has numbers.
-// No Display, which has no way to say that a table has none.
-fn table_words(table: SlotTable) -> Option<&'static str> {
+/// What stands in front of the words of a table.
+fn scope(table: SlotTable) -> &'static str {
     match table {
-        SlotTable::Unnumbered | SlotTable::Taken => None,
-        SlotTable::Types => Some("type"),
-        SlotTable::Overrides => Some("override"),
-        SlotTable::Constants => Some("constant"),
-        SlotTable::GlobalVariables => Some("global variable"),
-        SlotTable::Filters => Some("filter"),
-        SlotTable::Expressions => Some("expression"),
-        SlotTable::Functions => Some("function"),
-        SlotTable::EntryPoints => Some("entry point"),
-        SlotTable::LocalVariables => Some("local variable"),
-        SlotTable::LocalExpressions => Some("inner expression"),
+        SlotTable::LocalExpressions => "inner ",
+        _ => "",
     }
 }
 
 /// A number, and the kept record that it names.
 #[derive(Clone, Copy)]
 struct Name {
-    table: &'static str,
+    scope: &'static str,
+    table: Table,
     number: u32,
     place: usize,
     kind: Kind,
@@ -41,7 +34,8 @@ impl Name {
         let bytes = view.record(place)?;
         let (kind, _) = (Record { bytes }).parts().ok()?;
         Some(Name {
-            table: table_words(slot.table)?,
+            scope: scope(slot.table),
+            table: handle_table(slot.table)?,
             number: slot.number,
             place,
             kind,
@@ -52,17 +46,19 @@ impl Name {
 impl Display for Name {
     fn fmt<W: fmt::Write>(&self, f: &mut fmt::Formatter<W>) -> fmt::Result {
         let Name {
+            scope,
             table,
             number,
             place,
             kind,
         } = *self;
-        write!(f, "{table} {number} is kept record {place}, {kind}")
+        write!(f, "{scope}{table} {number} is kept record {place}, {kind}")
     }
 }
 
 /// What each number of each table names, in the order of the kept records: the numbers of a body
 /// follow the function or entry point that it belongs to.
+// By place, which is printed.
 pub fn show_names<W: Write>(out: &mut W, view: View<'_>) -> io::Result<()> {
     for name in (0..view.kept()).filter_map(|place| Name::at(view, place)) {
         writeln!(out, "{name}")?;

@@ -4,30 +4,10 @@ use crate::named::show_names;
 use crate::show::{Fields, Totals};
 use arena::answer::answered_number;
 use command::Options;
-use draft::refusal::Refusal;
 use records::image::{Record, Records};
-use records::judge::Flaw;
 use std::fmt::Display;
 use std::io::Write;
 use std::{fmt, io};
-
-/// A refusal by its number and in words.
-#[derive(Clone, Copy)]
-struct Reason(Refusal);
-
-impl Display for Reason {
-    fn fmt<W: fmt::Write>(&self, f: &mut fmt::Formatter<W>) -> fmt::Result {
-        let words = match self.0 {
-            Refusal::Flawed(Flaw::NoSuchKind) => "no kind has this number",
-            Refusal::Flawed(Flaw::WrongLength) => "not as long as its kind fixes",
-            Refusal::Flawed(Flaw::BadField) => "a field holds what it may not",
-            Refusal::Misplaced => "it may not stand here",
-            Refusal::TooDeep => "64 brackets are open",
-            Refusal::Full => "too few bytes, no slot or no number is left",
-        };
-        write!(f, "{}: {words}", self.0.number())
-    }
-}
 
 /// A part of an image, where it stands there, and what the draft answered to it.
 #[derive(Clone, Copy)]
@@ -40,6 +20,7 @@ struct Entry<'a> {
 
 impl Entry<'_> {
     /// The number of the kind, as it stands in the part.
+    // A byte and no `Kind`: a part of no kind is shown by it too.
     fn kind_byte(&self) -> u8 {
         self.record.bytes.first().copied().unwrap_or(0)
     }
@@ -76,11 +57,11 @@ impl Display for Full<'_> {
         match entry.outcome {
             Ok(Some(handle)) => writeln!(f, " -> {handle}")?,
             Ok(None) => writeln!(f, " -> no number")?,
-            Err(refusal) => writeln!(f, " refused {}", Reason(refusal))?,
+            Err(refusal) => writeln!(f, " refused {}: {refusal}", refusal.number())?,
         }
-        match (record.judge(), record.bytes) {
-            (Ok(kind), [_, body @ ..]) => write!(f, "{}", Fields { kind, body }),
-            _ => Ok(()),
+        match record.judge().and(record.body()) {
+            Ok((kind, body)) => write!(f, "{}", Fields { kind, body }),
+            Err(_) => Ok(()),
         }
     }
 }
@@ -94,6 +75,7 @@ pub struct Reporter<'a, W> {
 
 impl<W: Write> Reporter<'_, W> {
     /// Shows what the draft answered to a part; whether to go on behind it.
+    // A `bool`: a `ControlFlow` would hold nothing either way.
     fn show_entry(&mut self, entry: Entry<'_>) -> io::Result<bool> {
         if self.options.plain {
             writeln!(self.out, "{}", Plain(entry))?;
@@ -115,6 +97,7 @@ impl<W: Write> Reporter<'_, W> {
     /// Puts each record of an image into a new draft and shows what it answered, up to the first that
     /// it refused unless it is to keep going; then what the draft has come to.
     pub fn report<D: AnyDraft + Drop>(&mut self, image: &[u8], mut draft: D) -> io::Result<()> {
+        // A sum beside the index: a `scan` would keep it in a closure that changes.
         let mut offset = 0;
         for (index, record) in Records::new(image).enumerate() {
             let outcome = draft.put(record.bytes)?;

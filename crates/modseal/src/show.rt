@@ -4,6 +4,7 @@ use ir::fields::{Cases, Field, Word};
 use ir::kinds::Kind;
 use names::cases::{case_name, word_names};
 use names::kinds::field_names;
+use records::body::{Body, Placed, Words};
 use std::fmt;
 use std::fmt::Display;
 
@@ -30,25 +31,20 @@ impl Display for Content {
 struct Case<'a> {
     cases: Cases,
     byte: u8,
-    bytes: &'a [u8],
+    words: Option<Words<'a>>,
 }
 
 impl Case<'_> {
     /// The words by name, in brackets where there are any.
-    fn fmt_words<W: fmt::Write>(&self, words: &[Word], f: &mut fmt::Formatter<W>) -> fmt::Result {
+    fn fmt_words<W: fmt::Write>(&self, words: Words<'_>, f: &mut fmt::Formatter<W>) -> fmt::Result {
         let names = word_names(self.cases, self.byte);
         if names.is_empty() {
             return Ok(());
         }
-        let (numbers, _) = self.bytes.as_chunks::<4>();
-        let named = names.iter().zip(words).zip(numbers);
         write!(f, "(")?;
-        for (i, ((name, word), number)) in named.enumerate() {
+        for (i, (name, (word, number))) in names.iter().zip(words).enumerate() {
             let separator = if i > 0 { ", " } else { "" };
-            let content = Content {
-                word: *word,
-                number: u32::from_le_bytes(*number),
-            };
+            let content = Content { word, number };
             write!(f, "{separator}{name}: {content}")?;
         }
         write!(f, ")")
@@ -57,7 +53,7 @@ impl Case<'_> {
 
 impl Display for Case<'_> {
     fn fmt<W: fmt::Write>(&self, f: &mut fmt::Formatter<W>) -> fmt::Result {
-        match (case_name(self.cases, self.byte), self.cases.case(self.byte)) {
+        match (case_name(self.cases, self.byte), self.words) {
             (Some(name), Some(words)) => {
                 write!(f, "{name}")?;
                 self.fmt_words(words, f)
@@ -69,23 +65,21 @@ impl Display for Case<'_> {
 
 /// What a field holds.
 #[derive(Clone, Copy)]
-struct Value<'a> {
-    field: Field,
-    bytes: &'a [u8],
-}
+struct Value<'a>(Placed<'a>);
 
 impl Display for Value<'_> {
     fn fmt<W: fmt::Write>(&self, f: &mut fmt::Formatter<W>) -> fmt::Result {
-        match (self.field, self.bytes) {
-            (Field::Word(word), [a, b, c, d, ..]) => {
-                let number = u32::from_le_bytes([*a, *b, *c, *d]);
-                write!(f, "{}", Content { word, number })
+        let Value(placed) = self;
+        match (placed.field, placed.bytes, placed.words()) {
+            (Field::Case(cases), [byte, ..], words) => {
+                let (cases, byte) = (*cases, *byte);
+                write!(f, "{}", Case { cases, byte, words })
             }
-            (Field::Case(cases), [byte, bytes @ ..]) => {
-                let byte = *byte;
-                write!(f, "{}", Case { cases, byte, bytes })
-            }
-            _ => Ok(()),
+            (_, _, Some(mut words)) => match words.next() {
+                Some((word, number)) => write!(f, "{}", Content { word, number }),
+                None => Ok(()),
+            },
+            (_, _, None) => Ok(()),
         }
     }
 }
@@ -94,22 +88,14 @@ impl Display for Value<'_> {
 #[derive(Clone, Copy)]
 pub struct Fields<'a> {
     pub kind: Kind,
-    pub body: &'a [u8],
+    pub body: Body<'a>,
 }
 
 impl Display for Fields<'_> {
     fn fmt<W: fmt::Write>(&self, f: &mut fmt::Formatter<W>) -> fmt::Result {
-        let mut rest = self.body;
-        for (field, name) in self.kind.layout().iter().zip(field_names(self.kind)) {
-            let Some((bytes, later)) = rest.split_at_checked(field.width()) else {
-                break;
-            };
-            let value = Value {
-                field: *field,
-                bytes,
-            };
+        for (placed, name) in self.body.zip(field_names(self.kind)) {
+            let value = Value(placed);
             writeln!(f, "  {name}: {value}")?;
-            rest = later;
         }
         Ok(())
     }

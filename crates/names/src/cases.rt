@@ -7,6 +7,7 @@ ghost use Rattle.names.specs.Used.{used_in};
 use ir::fields::Cases;
 
 /// The name of a case, if there is such a case.
+// Beside the cases and not in them: names are for printing, and the definitions speak of words alone.
 pub fn case_name(cases: Cases, byte: u8) -> Option<&'static str>
     ensures { is_some result ≡ is_some (slice_get (cases_of cases) byte) }
 {

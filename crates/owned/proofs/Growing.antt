@@ -24,18 +24,8 @@ module _ (a b p q : ℕ) (m : List Record) (r : Record) (same : (t : SlotTable) 
   known_same None = added_same table.Types
 
   in_same : (t : SlotTable) → put_in a p m r t ≡ put_in b q m r t
-  in_same table.Unnumbered = added_same table.Unnumbered
-  in_same table.Taken = added_same table.Taken
   in_same table.Types = known_same (known (state m) r)
-  in_same table.Overrides = added_same table.Overrides
-  in_same table.Constants = added_same table.Constants
-  in_same table.GlobalVariables = added_same table.GlobalVariables
-  in_same table.Filters = added_same table.Filters
-  in_same table.Expressions = added_same table.Expressions
-  in_same table.Functions = added_same table.Functions
-  in_same table.EntryPoints = added_same table.EntryPoints
-  in_same table.LocalVariables = added_same table.LocalVariables
-  in_same table.LocalExpressions = added_same table.LocalExpressions
+  in_same t = added_same t
 
   admitted_same : (f : Result Kind Refusal) → put_admitted a p m r f ≡ put_admitted b q m r f
   admitted_same (Err e) = refl

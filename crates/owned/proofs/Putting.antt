@@ -15,7 +15,6 @@ use Rattle.owned.specs.declared.denial.Denial.TheVariants.{Refused}
 use Rattle.owned.specs.declared.owned.OwnedDraft.{OwnedDraft}
 use Rattle.owned.specs.Kept.{kept_in}
 use Rattle.owned.specs.Putting.{put_all, PutOrNone}
-use Rattle.owned.proofs.Holding.{whole}
 use Rattle.owned.proofs.Growing.{put_enough}
 
 -- what a list holds once the loan of all its elements ends
@@ -28,7 +27,7 @@ pub put_made : (w : OwnedDraft) (m : List Record) (r : Record) {bytes : List ℕ
     → {answer : Result Answer Refusal} {d' : Draft} {bytes' : List ℕ} {slots' : List Slot} → KeptAs (put_def (length bytes) (length slots) (records w.draft bytes slots) r) answer w.draft bytes slots d' bytes' slots'
     → ((put_all m r).0 ≡ answer) × (records d' bytes' slots' ≡ (put_all m r).1)
 put_made w m r {bytes} {slots} bytes_is slots_is is large many kept =
-    let h : Stands w.draft bytes slots = simp (bytes_is, slots_is) (whole w) in
+    let h : Stands w.draft bytes slots = simp (bytes_is, slots_is) w.stands in
     let same : records w.draft bytes slots ≡ m = simp (bytes_is, slots_is) is in
     let room : length (image (records w.draft bytes slots)) + length r ≤ length bytes = simp same (let l = w.bytes.ok in let b = ap length bytes_is in omega arith) in
     let places : length (records w.draft bytes slots) + 1 ≤ length slots = simp same (let l = w.slots.ok in let b = ap length slots_is in omega arith) in

@@ -1,4 +1,2 @@
-pub mod Accepts
-pub mod Parts
 pub mod Kept
 pub mod Putting

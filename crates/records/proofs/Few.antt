@@ -1,6 +1,7 @@
 -- A body has no more handles than bytes.
 use Rattle.std.proofs.Common.{◌≡◌, ℕ, zero, suc, ◌+◌, ◌≤◌, Bool, true, ◌&&◌, leb, List, [], ◌∷◌, length, drop, Some, None, Option, refl, subst, arith, length-append, sym}
 use Rattle.std.proofs.lemmas.Bool.{and_parts, leb-true}
+use Rattle.std.proofs.lemmas.Option.{same_Some}
 use Rattle.std.specs.List.{slice_get}
 use Rattle.std.specs.Prelude.{slice_index}
 use Rattle.ir.specs.declared.handle.Handle.{Handle}
@@ -25,22 +26,12 @@ rows_fit n (ws ∷ rows) = leb (length ws) n && rows_fit n rows
 -- no row of a case is longer than the words that follow its byte
 all_rows : (c : Cases) → rows_fit (words_of c) (cases_of c) ≡ true
 all_rows cases.Bool = refl
-all_rows cases.ArraySize = refl
-all_rows cases.SampleLevel = refl
-all_rows cases.ImageQuery = refl
-all_rows cases.AtomicFunction = refl
-all_rows cases.GatherMode = refl
-all_rows cases.RayQueryFunction = refl
-all_rows cases.RayPipelineFunction = refl
-all_rows cases.MeshInfo = refl
-
-same_row : {A : Type 0} (x y : A) → Some x ≡ Some y → x ≡ y
-same_row x y e = cc
+all_rows _ = refl
 
 row_fits : (n : ℕ) (rows : List (List Word)) (k : ℕ) (ws : List Word) → rows_fit n rows ≡ true → slice_get rows k ≡ Some ws → length ws ≤ n
 row_fits n [] k ws all e = let z : ◌≡◌ {A = ℕ} 0 1 = cc in absurd (omega arith)
 row_fits n (row ∷ rows) zero ws all e =
-    subst (λ (xs : List Word). length xs ≤ n) (same_row row ws e) (leb-true _ _ (and_parts (leb (length row) n) (rows_fit n rows) all).0)
+    subst (λ (xs : List Word). length xs ≤ n) (same_Some row ws e) (leb-true _ _ (and_parts (leb (length row) n) (rows_fit n rows) all).0)
 row_fits n (row ∷ rows) (suc k) ws all e =
     row_fits n rows k ws (and_parts (leb (length row) n) (rows_fit n rows) all).1 e
 

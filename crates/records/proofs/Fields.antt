@@ -2,7 +2,7 @@
 use Rattle.std.proofs.Common.{◌≡◌, ℕ, Bool, true, cond, ◌&&◌, List, [], ◌∷◌, ◌++◌, drop, Some, None, Ok, Err, Option, Result, refl, sym, ap, ◌∙◌}
 use Rattle.std.specs.Prelude.{slice_index}
 use Rattle.std.specs.List.{slice_get, list_all, filter_map, cons_option}
-use Rattle.std.proofs.lemmas.Option.{none-some}
+use Rattle.std.proofs.lemmas.Option.{none-some, same_Some}
 use Rattle.std.proofs.Math.Bool.{and-true}
 use Rattle.ir.specs.declared.handle.Handle.{Handle}
 use Rattle.ir.specs.declared.fields.Word.{Word}
@@ -17,9 +17,6 @@ use Rattle.records.specs.Record.{number, words_fit, case_fits, field_fits, field
 use Rattle.records.specs.Handles.{joining, words_handles, field_handles, fields_handles, fields_tested, parts_handles, handles_of}
 use Rattle.records.specs.Left.{words_in, row_words, field_words, placed, all_fit, placed_parts, fields_of}
 use Rattle.records.specs.Gathered.{word_handle, handles_in, tested_in}
-
-some_is : {A : Type 0} (x y : A) → Some x ≡ Some y → x ≡ y
-some_is x y e = cc
 
 -- a word may hold its number
 abbrev pub word_fits : Word × ℕ → Bool
@@ -42,11 +39,11 @@ words_gathered (w ∷ ws) bytes =
 row_all : (o : Option (List Word)) (bytes : List ℕ) (ws : List (Word × ℕ)) → row_words o bytes ≡ Some ws → list_all word_fits ws ≡ case_fits o bytes
 row_all None bytes ws e = absurd (none-some ws e)
 row_all (Some row) bytes ws e =
-    ap (list_all word_fits) (sym (some_is (words_in row bytes) ws e)) ∙ words_all row bytes
+    ap (list_all word_fits) (sym (same_Some (words_in row bytes) ws e)) ∙ words_all row bytes
 
 pub field_all : (f : Field) (bytes : List ℕ) (ws : List (Word × ℕ)) → field_words f bytes ≡ Some ws → list_all word_fits ws ≡ field_fits f bytes
 field_all (one w) bytes ws e =
-    ap (list_all word_fits) (sym (some_is (words_in (w ∷ []) bytes) ws e)) ∙ and-true (fits w (number bytes))
+    ap (list_all word_fits) (sym (same_Some (words_in (w ∷ []) bytes) ws e)) ∙ and-true (fits w (number bytes))
 field_all (Case c) bytes ws e = row_all (slice_get (cases_of c) (slice_index bytes 0)) (drop 1 bytes) ws e
 
 -- field after field
@@ -82,10 +79,10 @@ module _ {k : Kind} {ps : List (Field × List ℕ)} where
       (p.1, ap (λ (x : Kind). Ok (x, p.1)) kind, sym fields ∙ ap (λ (x : Kind). placed (layout x) p.1) kind)
   parts_are (Err f) e = absurd cc
 
-  pub judged_is : (bytes : List ℕ) → fields_of bytes ≡ Ok (k, ps) → judged bytes ≡ cond (all_fit ps) (Ok k) (Err BadField)
-  judged_is bytes e =
+  pub judged_is : (bytes : List ℕ) (fit : Bool) → fields_of bytes ≡ Ok (k, ps) → fit ≡ all_fit ps → cond fit (Ok k) (Err BadField) ≡ judged bytes
+  judged_is bytes fit e tests =
       let p = parts_are (parts_of bytes) e in
-      ap judged_parts p.1 ∙ ap (λ b. cond b (Ok k) (Err BadField)) (sym (ap all_fit p.2 ∙ fields_all (layout k) p.0))
+      ap (λ b. cond b (Ok k) (Err BadField)) (tests ∙ ap all_fit p.2 ∙ fields_all (layout k) p.0) ∙ sym (ap judged_parts p.1)
 
   pub handles_are : (bytes : List ℕ) → fields_of bytes ≡ Ok (k, ps) → handles_in ps ≡ handles_of bytes
   handles_are bytes e =

@@ -1,8 +1,8 @@
 -- The second field before the first.
-use Rattle.std.proofs.Common.{◌≡◌, ℕ, Bool, true, false, List, [], ◌∷◌, ◌++◌, drop, Ok, Err, Option, Result, refl, arith, append_assoc, sym, ap, ◌∙◌}
+use Rattle.std.proofs.Common.{◌≡◌, ℕ, Bool, true, false, List, [], ◌∷◌, ◌++◌, drop, Ok, Err, Option, Result, refl, append_assoc, sym, ap, ◌∙◌}
 use Rattle.std.specs.List.{slice_get}
 use Rattle.std.specs.List.Sorted.{IsPermutation}
-use Rattle.std.proofs.lemmas.List.Sorted.{IsPermutation-refl, IsPermutation-cons, IsPermutation-swap, IsPermutation-trans}
+use Rattle.std.proofs.lemmas.List.Sorted.{IsPermutation-refl, IsPermutation-append_comm, IsPermutation-append_left}
 use Rattle.ir.specs.declared.handle.Handle.{Handle}
 use Rattle.ir.specs.declared.fields.Field.{Field}
 use Rattle.ir.specs.Field.{width_of}
@@ -29,19 +29,10 @@ pub tested_more : (ps qs rs : List (Field × List ℕ)) {p q : Field × List ℕ
 tested_more ps qs rs {p} {q} e f = rw (e, f) (append_assoc (handles_at q) (handles_at p) (handles_in rs))
 
 -- the same elements, one list moved behind another
-behind_one : {X : Type 0} (x : X) (ys zs : List X) → IsPermutation (x ∷ (ys ++ zs)) (ys ++ (x ∷ zs))
-behind_one x [] zs = IsPermutation-refl (x ∷ zs)
-behind_one x (y ∷ ys) zs =
-    IsPermutation-trans (x ∷ y ∷ (ys ++ zs)) (y ∷ x ∷ (ys ++ zs)) (y ∷ (ys ++ (x ∷ zs)))
-    (IsPermutation-swap (x ∷ y ∷ (ys ++ zs)) (y ∷ x ∷ (ys ++ zs)) 0 1 (omega arith) (omega arith) refl)
-    (IsPermutation-cons y (x ∷ (ys ++ zs)) (ys ++ (x ∷ zs)) (behind_one x ys zs))
-
-pub behind : {X : Type 0} (xs ys zs : List X) → IsPermutation (xs ++ (ys ++ zs)) (ys ++ (xs ++ zs))
-behind [] ys zs = IsPermutation-refl (ys ++ zs)
-behind (x ∷ xs) ys zs =
-    IsPermutation-trans (x ∷ (xs ++ (ys ++ zs))) (x ∷ (ys ++ (xs ++ zs))) (ys ++ (x ∷ (xs ++ zs)))
-    (IsPermutation-cons x (xs ++ (ys ++ zs)) (ys ++ (xs ++ zs)) (behind xs ys zs))
-    (behind_one x ys (xs ++ zs))
+behind : {X : Type 0} (xs ys zs : List X) → IsPermutation (xs ++ (ys ++ zs)) (ys ++ (xs ++ zs))
+behind xs ys zs =
+    let moved : IsPermutation ((xs ++ ys) ++ zs) ((ys ++ xs) ++ zs) = IsPermutation-append_left zs (xs ++ ys) (ys ++ xs) (IsPermutation-append_comm xs ys) in
+    rw (append_assoc xs ys zs, append_assoc ys xs zs) at moved
 
 fields_same : (b : Bool) (fs : List Field) (bytes : List ℕ) → IsPermutation (fields_handles fs bytes) (fields_tested b fs bytes)
 fields_same false fs bytes = IsPermutation-refl (fields_handles fs bytes)

@@ -9,7 +9,7 @@ use std::slice;
 
 /// Words, and the bytes that they stand in.
 #[derive(Clone, Copy)]
-pub(crate) struct Words<'a> {
+pub struct Words<'a> {
     words: &'static [Word],
     bytes: &'a [u8],
     ghost room: { 4 * length words.now ≤ length bytes.now },
@@ -17,15 +17,15 @@ pub(crate) struct Words<'a> {
 
 /// A field, and the bytes that begin with it.
 #[derive(Clone, Copy)]
-pub(crate) struct Placed<'a> {
-    field: &'static Field,
-    bytes: &'a [u8],
+pub struct Placed<'a> {
+    pub field: &'static Field,
+    pub bytes: &'a [u8],
     ghost room: { width_of field.now ≤ length bytes.now },
 }
 
 /// Fields, and the bytes that they stand in.
 #[derive(Clone, Copy)]
-pub(crate) struct Body<'a> {
+pub struct Body<'a> {
     fields: &'static [Field],
     bytes: &'a [u8],
     ghost room: { size_of fields.now ≤ length bytes.now },
@@ -66,9 +66,10 @@ impl<'a> Iterator for Words<'a> {
 
 impl<'a> Placed<'a> {
     ghost use Rattle.records.specs.Left.{field_words, words_left};
+    ghost use Rattle.records.specs.Record.{field_fits};
 
     /// Its words, with what each holds: none where the byte of its case is no case.
-    pub(crate) fn words(self) -> Option<Words<'a>>
+    pub fn words(self) -> Option<Words<'a>>
         ensures { MatchOption result (field_words self.entry.field.now self.entry.bytes.now ≡ None) (λ ws. field_words self.entry.field.now self.entry.bytes.now ≡ Some (words_left ws)) }
     {
         match (self.field, self.bytes) {
@@ -83,10 +84,6 @@ impl<'a> Placed<'a> {
             _ => None,
         }
     }
-}
-
-impl<'a> Placed<'a> {
-    ghost use Rattle.records.specs.Record.{field_fits};
 
     /// Whether it holds what it may.
     fn fits(self) -> bool
@@ -110,8 +107,8 @@ impl<'a> Body<'a> {
         fields.all(|field| field.fits())
     }
 
-    /// No fields.
-    pub(crate) fn empty() -> Body<'a>
+    /// None.
+    pub(crate) fn none() -> Body<'a>
         ensures { body_left result ≡ [] }
     {
         Body {

@@ -20,6 +20,8 @@ pub struct Handles<'a> {
 }
 
 /// The first word that is a handle, and the words behind it are left.
+// Not by `find_map`, of which the proof did not close: where it gives `None`, its contract does not say that
+// no word is left.
 fn next_handle(words: &mut Words<'_>) -> Option<Handle>
     ensures { YieldsFirst word_handles words.old result words.new }
 {
@@ -48,7 +50,7 @@ impl<'a> Handles<'a> {
     {
         Handles {
             words: field.words().unwrap_or(Words::none()),
-            later: Body::empty(),
+            later: Body::none(),
         }
     }
 }
@@ -60,6 +62,7 @@ impl<'a> Iterator for Handles<'a> {
 
     ghost remaining = { item_count handles_left };
 
+    // A flatten by hand: `FlatMap` has a closure in its type, which a field cannot name.
     fn next(&mut self) -> Option<Handle> {
         loop {
             if let Some(handle) = next_handle(&mut self.words) {
@@ -94,7 +97,7 @@ impl<'a> Record<'a> {
     {
         match self.body() {
             Ok((_, body)) => Handles::of(body),
-            Err(_) => Handles::of(Body::empty()),
+            Err(_) => Handles::of(Body::none()),
         }
     }
 

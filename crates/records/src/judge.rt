@@ -63,7 +63,7 @@ impl<'a> Record<'a> {
     }
 
     /// Its kind and the fields of its body, or why it is no record.
-    pub(crate) fn body(self) -> Result<(Kind, Body<'a>), Flaw>
+    pub fn body(self) -> Result<(Kind, Body<'a>), Flaw>
         ensures { MatchResult result (λ p. fields_of self.entry.bytes.now ≡ Ok (p.0, body_left p.1)) (λ e. fields_of self.entry.bytes.now ≡ Err e) }
     {
         let (kind, bytes) = self.parts()?;

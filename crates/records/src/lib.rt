@@ -1,7 +1,7 @@
 //! Records: how an image is cut into them, when one is refused, and which handles one holds.
 #![tactic(auto)]
 
-mod body;
+pub mod body;
 pub mod handles;
 pub mod image;
 pub mod judge;

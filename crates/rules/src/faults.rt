@@ -15,6 +15,7 @@ pub enum Rule {
 
 impl Rule {
     /// The number of the refusal.
+    // A method: `u8::from(rule)` would not say which number it gives.
     pub fn number(self) -> u8
         ensures { result ≡ rule_number self }
     {
@@ -23,6 +24,7 @@ impl Rule {
 }
 
 /// What the numbers in a fault count.
+// Beside `Table`: arguments are counted and have no table, and entry points are counted as functions.
 #[derive(Clone, Copy, PartialEq, Eq, Debug)]
 pub enum FaultKind {
     Type,
@@ -38,6 +40,7 @@ pub enum FaultKind {
 
 /// A failed test: the rule, what its numbers count, the two numbers, and the place among the kept
 /// records of the record under test.
+// A fault is reported by five numbers (rule, kind, first, second, place), so it holds all of them for every rule.
 #[derive(Clone, Copy, PartialEq, Eq, Debug)]
 pub struct Fault {
     pub rule: Rule,

@@ -5,6 +5,7 @@ ghost use Rattle.rules.specs.Sizes.{size_in};
 use ir::handle::Table;
 
 /// How many items each table has.
+// Beside `Lengths` of the drafts: this goes by the tables of handles, that one by the tables of slots, which count a body's expressions apart.
 #[derive(Clone, Copy, PartialEq, Eq, Debug)]
 pub struct Sizes {
     pub types: u32,

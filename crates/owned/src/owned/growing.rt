@@ -2,6 +2,7 @@
 ghost use Rattle.std.specs.Prelude.{◌≡◌, ◌+◌, ◌-◌, ◌≤◌, true, [], ◌++◌, length, replicate, is_ok, vec_len};
 ghost use Rattle.draft.specs.Admitted.{image};
 ghost use Rattle.arena.specs.Memory.{Stands, records};
+ghost use Rattle.arena.specs.Viewing.{viewed};
 ghost use Rattle.owned.specs.Kept.{kept_in};
 ghost use Rattle.owned.specs.Putting.{put_all, PutOrNone};
 
@@ -9,6 +10,7 @@ use super::OwnedDraft;
 use crate::denial::Denial;
 use arena::Draft;
 use arena::slot::Slot;
+use arena::view::View;
 use ir::handle::Handle;
 use std::alloc::{AllocError, Global};
 
@@ -30,6 +32,14 @@ impl OwnedDraft {
         ensures keeps { records result.0.now result.1.now result.2.now ≡ kept_in self.now }
     {
         (&self.draft, self.bytes.as_slice(), self.slots.as_slice())
+    }
+
+    /// The draft and its memory, for reading.
+    pub fn view(&self) -> View<'_>
+        ensures { viewed result ≡ kept_in self.now }
+    {
+        self.draft
+            .view(self.bytes.as_slice(), self.slots.as_slice())
     }
 
     /// Makes room for one more record of this size, and keeps the records.
@@ -55,6 +65,7 @@ impl OwnedDraft {
 
 /// Where there are fewer elements than are needed, appends copies of the filler: at least as many as
 /// are missing, and as there are, so that growing one by one takes linear time.
+// Filled and not reserved: put is lent slices.
 fn grow<T: Copy>(items: &mut Vec<T>, needed: usize, filler: T) -> Result<(), AllocError>
     ensures added { items.new.items ≡ items.old.items ++ replicate (vec_len items.new - vec_len items.old) filler }
     ensures enough { is_ok result ≡ true → needed ≤ vec_len items.new }

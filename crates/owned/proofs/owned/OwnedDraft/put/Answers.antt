@@ -1,7 +1,6 @@
 use Rattle.std.proofs.Common.{◌≡◌, true, is_ok, ap, ◌∙◌}
 use Rattle.owned.specs.Kept.{kept_in}
 use Rattle.owned.specs.Putting.{put_all}
-use Rattle.owned.proofs.Holding.{whole, scattered}
 use Rattle.owned.proofs.Putting.{refilled_is, put_made, refused_so}
 use Rattle.owned.proofs.owned.OwnedDraft.put.Goals as goal
 
@@ -9,15 +8,14 @@ pub put-requires : goal.put-requires
 put-requires c =
     let b = c.as_mut_slice.ensures.value in
     let s = c.as_mut_slice-2.ensures.value in
-    simp (b, s) (whole c.make_room.new.self)
+    simp (b, s) c.make_room.new.self.stands
 
 pub invariant_of-self : goal.invariant_of-self
 invariant_of-self c =
     let w = c.make_room.new.self in
     let b = refilled_is w.bytes c.as_mut_slice.result.now c.put.new.bytes c.as_mut_slice.ensures.value c.put.auto.bytes in
     let s = refilled_is w.slots c.as_mut_slice-2.result.now c.put.new.slots c.as_mut_slice-2.ensures.value c.put.auto.slots in
-    let p = scattered c.put.ensures.kept.stands in
-    simp (b, s) (record { counted = p.0; held = p.1; placed = p.2; sound = p.3 })
+    simp (b, s) (record { stands = c.put.ensures.kept.stands })
 
 pub returns-in_err-answer : goal.returns-in_err-answer
 returns-in_err-answer c =

@@ -8,4 +8,4 @@ returns-in-Ok c = c.of.ensures ∙ handles_are c.args.self.bytes.now c.in-Ok.ens
 
 pub returns-in-Err : goal.returns-in-Err
 returns-in-Err c =
-    c.of-in-Err.ensures ∙ ap handles_in c.empty.ensures ∙ handles_none c.args.self.bytes.now _ c.in-Err.ensures
+    c.of-in-Err.ensures ∙ ap handles_in c.none.ensures ∙ handles_none c.args.self.bytes.now _ c.in-Err.ensures
