@@ -3,8 +3,7 @@
     python3 tools/changes.py COMMIT
 
 Of crates/*/src: the signature and clauses of each public function, the fields, cases and ghost fields of each
-public type, and each impl's ghost members. Of crates/*/specs: each definition. Of crates/*/proofs: the statement
-of each public lemma that a README or a page of docs/ names. What only moved is not listed.
+public type, and each impl's ghost members. Of crates/*/specs: each definition. What only moved is not listed.
 """
 import difflib
 import pathlib
