@@ -14,6 +14,7 @@ pub fn answered_number(answer: Option<Handle>) -> u32
 }
 
 /// The table whose handles name the items of a slot's table, where it has numbers.
+// A `match`: no derive gives a map between enums.
 pub fn handle_table(table: SlotTable) -> Option<Table>
     ensures { result ≡ table_of table }
 {

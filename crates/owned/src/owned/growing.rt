@@ -27,6 +27,7 @@ impl OwnedDraft {
     }
 
     /// The draft, and the memory that it stands in, for reading.
+    // The three beside `view`: put and view of a draft are lent its memory on each call.
     pub fn parts(&self) -> (&Draft, &[u8], &[Slot])
         ensures stands { Stands result.0.now result.1.now result.2.now }
         ensures keeps { records result.0.now result.1.now result.2.now ≡ kept_in self.now }
