@@ -1,8 +1,8 @@
 -- An item is one block of bytes: two items are equal exactly when their blocks are.
-use Rattle.std.proofs.Common.{◌≡◌, ℕ, suc, ◌<◌, Bool, true, false, cond, eqb, List, [], ◌∷◌, ◌++◌, length, take, drop, is_ok, Some, None, Ok, Err, Decides, Option, sym, refl, ap, ◌∙◌, subst, arith, length-append}
+use Rattle.std.proofs.Common.{◌≡◌, ℕ, suc, ◌<◌, true, false, cond, eqb, List, [], ◌∷◌, ◌++◌, length, take, drop, is_ok, Some, None, Ok, Err, Decides, Option, sym, refl, ap, ◌∙◌, subst, arith, length-append}
 use Rattle.std.specs.List.{AllByRecursion}
 use Rattle.std.specs.Str.{bytes_eq}
-use Rattle.std.proofs.lemmas.List.{take_at, drop_at, take-append-drop, same_from_push}
+use Rattle.std.proofs.lemmas.List.{take_at, drop_at, same_from_push}
 use Rattle.std.proofs.lemmas.Slice.Eq.{bytes_eq-Decides}
 use Rattle.std.proofs.lemmas.Bool.{and_parts, and_from, eqb-true}
 use Rattle.ir.specs.declared.kinds.Kind.{Kind}
@@ -101,14 +101,4 @@ pub blocks_decide : (i j : Item) → AllByRecursion Sound (i.taken ++ i.bytes �
 blocks_decide i j a b = (
   (λ e. let p = equal_parts i j e in ap (λ t. image (t ++ i.bytes ∷ [])) p.1 ∙ ap (λ r. image (j.taken ++ r ∷ [])) p.0),
   (λ e. let p = same_from_push i.taken j.taken i.bytes j.bytes (image_same (i.taken ++ i.bytes ∷ []) (j.taken ++ j.bytes ∷ []) a b e) in equal_from i j p.1 p.0),
-)
-
--- a block is two parts, one after the other
-pub front_differs : (block front rest first : List ℕ) → first ≡ take (length front) block → (first ≡ front → ⊥) → Decides false (block ≡ front ++ rest)
-front_differs block front rest first is apart = (λ e. absurd cc, λ e. absurd (apart (is ∙ ap (take (length front)) e ∙ take_at front rest (length front) refl)))
-
-pub rest_decides : (block front rest first second : List ℕ) (b : Bool) → first ≡ take (length front) block → second ≡ drop (length front) block → first ≡ front → Decides b (second ≡ rest) → Decides b (block ≡ front ++ rest)
-rest_decides block front rest first second b is is' same d = (
-  (λ e. sym (take-append-drop (length front) block) ∙ ap (λ l. l ++ drop (length front) block) (sym is ∙ same) ∙ ap (λ l. front ++ l) (sym is' ∙ d.0 e)),
-  (λ e. d.1 (is' ∙ ap (drop (length front)) e ∙ drop_at front rest (length front) refl)),
 )

@@ -30,7 +30,7 @@ unchanged : (z : Bool) (xs : List Item) (i : Item) → z ≡ false → xs ≡ gr
 unchanged z xs i e = sym (ap (λ y. grown y xs i) e)
 
 -- a table of a body
-abbrev local : SlotTable → Bool
+abbrev pub local : SlotTable → Bool
 local t = same_table table.LocalVariables t || same_table table.LocalExpressions t
 
 not_among : (t : Table) (u : SlotTable) → local u ≡ false → among (body_table t) u ≡ false
@@ -121,9 +121,9 @@ module _ (u : SlotTable) (i : Item) (o : Option BodyKind) (m : Module) (b : Body
   entry_turns (Goes.begins l n p f g q) = Turns.begins l (ap other n) (ap other p) g q
   entry_turns (Goes.ends l e p c gr f g) = Turns.ends l (ap other e) (ap other p) c gr (g ∙ entries_are o m c)
 
-nth_last : (xs : List Body) (b : Body) → slice_get (xs ++ b ∷ []) (length xs) ≡ Some b
-nth_last [] b = refl
-nth_last (x ∷ xs) b = nth_last xs b
+pub nth_last : {X : Type 0} (xs : List X) (x : X) → slice_get (xs ++ x ∷ []) (length xs) ≡ Some x
+nth_last [] x = refl
+nth_last (y ∷ xs) x = nth_last xs x
 
 -- the flag of a scan for the body with the number n, among the bodies of one kind
 abbrev Flag : ℕ → Option BodyKind → List Body → Bool → Type 0
@@ -251,6 +251,23 @@ FlagOf home.Module s f = Unit {0}
 FlagOf (home.Function n) s f = Flag n s.opened s.built.functions f
 FlagOf (home.EntryPoint n) s f = Flag n (other s.opened) s.built.entries f
 
+flag_now : (n : ℕ) (o : Option BodyKind) (xs : List Body) → (f : Bool) × Flag n o xs f
+flag_now n None xs = (false, tt)
+flag_now n (Some body_kind.Function) xs = (eqb (length xs) n, refl)
+flag_now n (Some body_kind.EntryPoint) xs = (false, refl)
+
+-- there is one in every state
+pub flag_in : (h : Home) (s : State) → (f : Bool) × FlagOf h s f
+flag_in home.Module s = (true, tt)
+flag_in (home.Function n) s = flag_now n s.opened s.built.functions
+flag_in (home.EntryPoint n) s = flag_now n (other s.opened) s.built.entries
+
+-- outside of bodies a record is in no table of a body
+outside : (u : SlotTable) (i : Item) (o : Option BodyKind) (m : Module) (b : Body) (o' : Option BodyKind) (m' : Module) (b' : Body) → Goes u i o m b o' m' b' → o ≡ None → local u ≡ false
+outside u i o m b o' m' b' (Goes.stays e p q r g out) n = out n
+outside u i o m b o' m' b' (Goes.begins l z p q r e) n = l
+outside u i o m b o' m' b' (Goes.ends l e p c g q r) n = l
+
 -- what one more record does to the items of a table
 pub record Step (h : Home) (t : Table) (s s' : State) (u : SlotTable) (i : Item) (f : Bool) : Type 0 where
   pub items : items_in h t s' ≡ grown (enters h f u (number_of_next u s) && among (slot_table h t) u) (items_in h t s) i
@@ -269,7 +286,10 @@ module _ (s : State) (r : Record) (k : Kind) (a : Admits s r k) where
   s' = stepped k r s
 
   goes : Goes u i s.opened s.built s.body s'.opened s'.built s'.body
-  goes = goes_at s.built s.body i k s.opened (and_parts _ _ (and_parts _ _ a.stands_well).1).0
+  goes = goes_at s.built s.body i k s.opened a.on_its_side
+
+  pub outside_table : s.opened ≡ None → local u ≡ false
+  outside_table = outside u i s.opened s.built s.body s'.opened s'.built s'.body goes
 
   functions_turn : Turns u i (opens u) s.opened s.built.functions s.body s'.opened s'.built.functions s'.body
   functions_turn = function_turns u i s.opened s.built s.body s'.opened s'.built s'.body goes

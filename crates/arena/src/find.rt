@@ -13,10 +13,7 @@ use draft::state::SlotTable;
 fn is_joined(block: &[u8], front: &[u8], rest: &[u8]) -> bool
     ensures { Decides result (block.now ≡ front.now ++ rest.now) }
 {
-    match block.strip_prefix(front) {
-        Some(after) => after == rest,
-        None => false,
-    }
+    block.strip_prefix(front) == Some(rest)
 }
 
 impl<'a> View<'a> {

@@ -94,6 +94,7 @@ impl<'a> View<'a> {
     }
 
     /// The places of the items of a table of this home, in the order of their numbers.
+    // Home and table, here and below, are no struct: it would be made for each call only to be taken apart here.
     fn places(self, home: Home, table: Table) -> Places<'a>
         ensures { places_left result.home result.table result.inside result.place result.slots.now ≡ places_in home table (state (viewed self.entry)) }
     {

@@ -239,13 +239,18 @@ mod tests {
         Ok(parse(words.as_slice()))
     }
 
+    /// The options of a report on a named input.
+    fn named_input() -> Options {
+        Options {
+            named: true,
+            ..Options::default()
+        }
+    }
+
     #[test]
     fn commands(rt: HostRuntime) -> Result<(), Fail> {
         let heap = rt.alloc();
-        let named = Options {
-            named: true,
-            ..Options::default()
-        };
+        let named = named_input();
         assert_eq!(rt; parsed(heap, "")?, Err(Misuse::NoCommand));
         assert_eq!(rt; parsed(heap, "reprt a")?, Err(Misuse::UnknownCommand));
         assert_eq!(rt; parsed(heap, "--help")?, Ok(Request::Help));
@@ -263,10 +268,7 @@ mod tests {
     #[test]
     fn options(rt: HostRuntime) -> Result<(), Fail> {
         let heap = rt.alloc();
-        let named = Options {
-            named: true,
-            ..Options::default()
-        };
+        let named = named_input();
         let plain = Options {
             plain: true,
             ..named

@@ -1,7 +1,7 @@
 -- One record more: what it does to the state, and what holds along the way.
-use Rattle.std.proofs.Common.{◌≡◌, ◌+◌, ◌≤◌, Bool, true, false, cond, List, [], ◌∷◌, ◌++◌, length, is_ok, Some, None, Ok, Err, fold, Option, Result, sym, refl, ap, ◌∙◌, subst, append_assoc, append-nil, arith, length-append}
+use Rattle.std.proofs.Common.{◌≡◌, ◌+◌, ◌≤◌, Bool, true, false, cond, List, [], ◌∷◌, ◌++◌, length, is_ok, is_some, Some, None, Ok, Err, fold, Option, Result, sym, refl, ap, ◌∙◌, subst, append_assoc, append-nil, arith, length-append}
 use Rattle.std.proofs.lemmas.List.Sums.{fold_push}
-use Rattle.std.proofs.lemmas.Bool.{leb-false}
+use Rattle.std.proofs.lemmas.Bool.{leb-false, and_parts}
 use Rattle.std.proofs.lemmas.Grind.{flat_map-append}
 use Rattle.ir.specs.declared.kinds.Kind.{Kind}
 use Rattle.records.specs.declared.judge.Flaw.{Flaw}
@@ -15,7 +15,7 @@ use Rattle.draft.specs.declared.manner.Turn.{Turn}
 use Rattle.draft.specs.declared.manner.Turn.TheVariants.{Keep, Push, Swap, Pop}
 use Rattle.draft.specs.Manner.{manner_of, turn_of}
 use Rattle.rules.specs.Module.{Record}
-use Rattle.draft.specs.State.{State, start, step, step_judged, stepped, state, in_place, too_deep, turned, deepens, innermost, waiting_after, on_side}
+use Rattle.draft.specs.State.{State, start, step, step_judged, stepped, state, in_place, too_deep, turned, deepens, innermost, waiting_after, meets, on_side}
 use Rattle.draft.specs.Admitted.{image, admitted, admitted_with, Accepted}
 
 pub step_is : (s : State) (r : Record) (k : Kind) → judged r ≡ Ok k → step s r ≡ stepped k r s
@@ -26,10 +26,12 @@ pub state_push : (m : List Record) (r : Record) → state (m ++ r ∷ []) ≡ st
 unfolding state
 state_push m r = fold_push step start m r
 
--- what an admitted record is
+-- what an admitted record is: judged well, one that what waits allows, on its side of a body, and fit for the brackets
 pub record Admits (s : State) (r : Record) (k : Kind) : Type 0 where
   pub kind_is : judged r ≡ Ok k
-  pub stands_well : in_place s k ≡ true
+  pub allowed : meets s.waits (manner_of k) ≡ true
+  pub on_its_side : on_side s.opened (manner_of k).side ≡ true
+  pub turns : is_some (turn_of (innermost s.brackets) (manner_of k).motion) ≡ true
   pub shallow : too_deep s k ≡ false
 
 placed_is : (b c : Bool) (j k : Kind) → cond b (cond c (Err TooDeep) (Ok j)) (Err Misplaced) ≡ Ok k → (b ≡ true) × (c ≡ false) × (j ≡ k)
@@ -44,7 +46,11 @@ admits_judged s (Ok j) k h =
     (ap Ok p.2, subst (λ x. in_place s x ≡ true) p.2 p.0, subst (λ x. too_deep s x ≡ false) p.2 p.1)
 
 pub admits : (s : State) (r : Record) (k : Kind) → admitted s r ≡ Ok k → Admits s r k
-admits s r k h = let p = admits_judged s (judged r) k h in record { kind_is = p.0; stands_well = p.1; shallow = p.2 }
+admits s r k h =
+    let p = admits_judged s (judged r) k h in
+    let q = and_parts (meets s.waits (manner_of k)) _ p.1 in
+    let t = and_parts (on_side s.opened (manner_of k).side) _ q.1 in
+    record { kind_is = p.0; allowed = q.0; on_its_side = t.0; turns = t.1; shallow = p.2 }
 
 ok_is : (f : Result Kind Refusal) → is_ok f ≡ true → (k : Kind) × (f ≡ Ok k)
 ok_is (Ok k) h = (k, refl)

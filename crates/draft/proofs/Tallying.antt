@@ -1,7 +1,7 @@
 -- The counts after one more record are those of the state after it.
-use Rattle.std.proofs.Common.{◌≡◌, ℕ, suc, ◌+◌, ◌-◌, ◌<◌, ◌≤◌, true, false, eqb, List, [], ◌∷◌, ◌++◌, length, reverse, get_or, set, replicate, is_some, Some, None, Option, sym, refl, ap, ◌∙◌, append_assoc, arith}
+use Rattle.std.proofs.Common.{◌≡◌, ℕ, suc, ◌+◌, ◌-◌, ◌<◌, ◌≤◌, true, false, eqb, List, [], ◌∷◌, ◌++◌, length, reverse, get_or, set, replicate, Some, None, Option, sym, refl, ap, ◌∙◌, append_assoc, arith}
 use Rattle.std.proofs.lemmas.List.{length_push, length-reverse, reverse-append, set_at, get_or_at}
-use Rattle.std.proofs.lemmas.Bool.{leb-false, and_parts, ne_eqb, cond-false}
+use Rattle.std.proofs.lemmas.Bool.{leb-false, ne_eqb, cond-false}
 use Rattle.ir.specs.declared.kinds.Kind.{Kind}
 use Rattle.ir.specs.declared.kinds.Kind.TheVariants as kind
 use Rattle.ir.specs.declared.kinds.Statement.{Statement}
@@ -20,7 +20,7 @@ use Rattle.draft.specs.declared.manner.Turn.TheVariants.{Keep, Push, Swap, Pop}
 use Rattle.draft.specs.declared.counts.Lengths.{Lengths}
 use Rattle.draft.specs.Manner.{manner_of, turn_of, statement_motion}
 use Rattle.rules.specs.Module.{Record, Module, Body, closed}
-use Rattle.draft.specs.State.{State, stepped, item_of, meets, on_side, turned, deepens, innermost, table_in, open_after, number_of_next, waiting_after}
+use Rattle.draft.specs.State.{State, stepped, item_of, on_side, turned, deepens, innermost, table_in, open_after, number_of_next, waiting_after}
 use Rattle.draft.specs.Counting.{stack_of, lengths_of, counts_of, counted, counted_more, moved, top, stacked, turned_stack, waits_of, pieces_of, count_of, waiting_more, advanced}
 use Rattle.draft.specs.Stacking.{Turns}
 use Rattle.draft.proofs.Stepping.{Admits}
@@ -135,8 +135,7 @@ turned_is bs m (Some t) e d h = stacked_is bs t (turns_fit bs m t e d h)
 
 pub counts_after : (s : State) (r : Record) (k : Kind) → Admits s r k → length s.brackets ≤ 64 → (s.waits ≡ None → s.waiting ≡ []) → counts_of (stepped k r s) ≡ advanced (counts_of s) (length r) (manner_of k)
 counts_after s r k a deep idle =
-    let side : on_side s.opened (manner_of k).side ≡ true = (and_parts (on_side s.opened (manner_of k).side) (is_some (turn_of (innermost s.brackets) (manner_of k).motion)) (and_parts (meets s.waits (manner_of k)) _ a.stands_well).1).0 in
-    let l : lengths_of (stepped k r s) ≡ moved (counted_more (lengths_of s) (table_in s.opened (manner_of k).table)) (manner_of k).motion = lengths_after s r k side in
+    let l : lengths_of (stepped k r s) ≡ moved (counted_more (lengths_of s) (table_in s.opened (manner_of k).table)) (manner_of k).motion = lengths_after s r k a.on_its_side in
     let t = turned_is s.brackets (manner_of k).motion (turn_of (innermost s.brackets) (manner_of k).motion) refl a.shallow deep in
     let u = ap (λ o. turned_stack (stack_of s.brackets) (turn_of o (manner_of k).motion)) (top_is s.brackets) in
     let v : stack_of (turned (turn_of (innermost s.brackets) (manner_of k).motion) s.brackets) ≡ turned_stack (stack_of s.brackets) (turn_of (top (stack_of s.brackets)) (manner_of k).motion) = t ∙ sym u in

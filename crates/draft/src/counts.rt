@@ -154,7 +154,11 @@ impl Counts {
 
     /// Counts one more record of this size.
     pub fn advance(&mut self, size: usize, manner: Manner)
-        requires sums { (self.old.used + size < 2 ^ 64) × ((self.old.kept + 1 < 2 ^ 64) × ((count_of self.old.waits + 1 < 2 ^ 64) × ((counted self.old.lengths (table_in self.old.opened manner.table) + 1 < 2 ^ 32) × (self.old.brackets.depth ≤ 64)))) }
+        requires used { self.old.used + size < 2 ^ 64 }
+        requires kept { self.old.kept + 1 < 2 ^ 64 }
+        requires waiting { count_of self.old.waits + 1 < 2 ^ 64 }
+        requires number { counted self.old.lengths (table_in self.old.opened manner.table) + 1 < 2 ^ 32 }
+        requires depth { self.old.brackets.depth ≤ 64 }
         requires turns { (t : AnyTurn) → turn_of (top self.old.brackets) manner.motion ≡ Some t → Turns self.old.brackets.depth t }
         ensures { self.new ≡ advanced self.old size manner }
     {

@@ -16,7 +16,7 @@ use Rattle.draft.specs.declared.state.BodyKind.TheVariants as body_kind
 use Rattle.draft.specs.declared.state.SlotTable.{SlotTable}
 use Rattle.draft.specs.declared.state.SlotTable.TheVariants as table
 use Rattle.draft.specs.Manner.{manner_of}
-use Rattle.draft.specs.State.{State, start, stepped, state, item_of, number_of_next, table_in, table_of, functions_now, entries_now}
+use Rattle.draft.specs.State.{State, start, stepped, state, item_of, number_of_next, table_in, table_of}
 use Rattle.draft.specs.Admitted.{admitted, Accepted}
 use Rattle.draft.proofs.Stepping.{admits, step_is, state_push, accepted_more, accepted_front}
 use Rattle.draft.proofs.Fronts.{fronted_so, front_is, bare}
@@ -30,8 +30,8 @@ use Rattle.arena.proofs.Putting.{put_refused, put_type, put_new, put_other}
 use Rattle.arena.proofs.Blocks.{equal_parts, equal_from}
 use Rattle.history.specs.Homes.{home_in, home_of}
 use Rattle.history.specs.Runs.{put_kept, run, Numbered, Names, NumbersStay}
-use Rattle.history.proofs.Keeping.{Keeps, keeps_same, bodies_same, tables_of, tables_same, StateOn, items_keep}
-use Rattle.history.proofs.Growing.{step_on, answer_table, home_has}
+use Rattle.history.proofs.Keeping.{Keeps, keeps_same}
+use Rattle.history.proofs.Growing.{step_keeps, answer_table, home_has}
 use Rattle.history.proofs.Knowing.{known_stays, known_next, known_names, known_like}
 
 -- the number of a handle is the one that was answered
@@ -46,8 +46,10 @@ answered_type o table.Types n h e = refl
 answered_type (Some body_kind.Function) table.Expressions n h e = absurd cc
 answered_type o t n h e = absurd cc
 
-bare_on : (s : State) (front : List Record) → StateOn s (bare s front)
-bare_on s front = record { tables = tables_same (tables_of s.built); functions = bodies_same (functions_now s.opened s.built s.body); entries = bodies_same (entries_now s.opened s.built s.body) }
+-- what waits is in no table
+bare_items : (s : State) (front : List Record) (h : Home) (t : Table) → items_in h t (bare s front) ≡ items_in h t s
+bare_items s front home.Module handles.Types = refl
+bare_items s front h t = refl
 
 -- these records are accepted too, and every table keeps its items
 record RunOn (m m' : List Record) : Type 0 where
@@ -64,7 +66,7 @@ front_on m m' a e =
     let now : bare (state m) f.front ≡ state m' = sym (ap state is ∙ f.before) in
     record {
       accepted = subst (Accepted start) (sym is) (accepted_front start f.front (state m).waiting (subst (Accepted start) (sym f.parts) a));
-      keeps = λ h t. items_keep h t (state m) (state m') (subst (StateOn (state m)) now (bare_on (state m) f.front));
+      keeps = λ h t. subst (Keeps (items_in h t (state m))) (sym (bare_items (state m) f.front h t) ∙ ap (items_in h t) now) (keeps_same (items_in h t (state m)));
     }
 
 state_more : (m m' : List Record) (r : Record) (k : Kind) → admitted (state m) r ≡ Ok k → m' ≡ m ++ r ∷ [] → state m' ≡ stepped k r (state m)
@@ -73,7 +75,7 @@ state_more m m' r k ad e = ap state e ∙ state_push m r ∙ step_is (state m) r
 more_on : (m m' : List Record) (r : Record) (k : Kind) → Accepted start m → admitted (state m) r ≡ Ok k → m' ≡ m ++ r ∷ [] → RunOn m m'
 more_on m m' r k a ad e = record {
   accepted = subst (Accepted start) (sym e) (accepted_more m r a (ap is_ok ad));
-  keeps = λ h t. items_keep h t (state m) (state m') (subst (StateOn (state m)) (sym (state_more m m' r k ad e)) (step_on (state m) r k (admits (state m) r k ad)));
+  keeps = λ h t. subst (λ s. Keeps (items_in h t (state m)) (items_in h t s)) (sym (state_more m m' r k ad e)) (step_keeps (state m) r k (admits (state m) r k ad) h t);
 }
 
 names_later : (h : Home) (t : Table) (m m' : List Record) (n : ℕ) (r : Record) (ws : List Record) → RunOn m m' → Names h t (state m) n r ws → Names h t (state m') n r ws

@@ -64,7 +64,7 @@ others =
     ∷ []
 
 -- the kind in the row that has the number
-abbrev found : ℕ → List (ℕ × Kind) → Option Kind
+abbrev pub found : ℕ → List (ℕ × Kind) → Option Kind
 found n [] = None
 found n (row ∷ rows) = cond (n == row.0) (Some row.1) (found n rows)
 

@@ -3,7 +3,7 @@ use Rattle.std.proofs.Common.{◌≡◌, ℕ, ◌+◌, ◌<◌, ◌≤◌, List,
 use Rattle.std.specs.List.{AllByRecursion}
 use Rattle.std.proofs.ByRecursion.{All-push, All-weaker}
 use Rattle.std.proofs.lemmas.List.{map_push}
-use Rattle.rules.specs.Module.{Item, Body, Module, opened_by, add_type, add_override, add_constant, add_global, set_special, add_predeclared, add_filter, set_leaf, add_expression, add_function, add_entry, add_argument, set_result, add_local, add_named, add_inner, add_statement, closed}
+use Rattle.rules.specs.Module.{Item, Body, Module, opened_by, add_function, add_entry, closed}
 use Rattle.laws.specs.Decoded.{Starts, Arrived}
 
 -- items in order of arrival, all of them before n
@@ -101,61 +101,17 @@ module_later low low' n k hl h m f = record {
 
 -- an item that arrives at n
 module _ (n : ℕ) (i : Item) (at : i.place ≡ n) where
-  push : (xs : List Item) → Sorted n xs → Sorted (n + 1) (xs ++ i ∷ [])
+  pub marked : (k low : ℕ) → low ≤ n → Starts i.bytes k → i.taken ≡ [] → MarkedItem k low (n + 1) i
+  marked k low h starts bare = record { starts = starts; bare = bare; above = omega arith; below = omega arith }
+
+  pub push : (xs : List Item) → Sorted n xs → Sorted (n + 1) (xs ++ i ∷ [])
   push xs s = sorted_push n (n + 1) xs i (omega arith) (omega arith) s
 
-  -- in a body
-  pub fine_argument : (b : Body) → FineBody n b → FineBody (n + 1) (add_argument b i)
-  fine_argument b f = let g = body_later n (n + 1) (omega arith) b f in record { opener = g.opener; result = g.result; arguments = push b.arguments f.arguments; locals = g.locals; named = g.named; expressions = g.expressions; statements = g.statements }
-
-  pub fine_local : (b : Body) → FineBody n b → FineBody (n + 1) (add_local b i)
-  fine_local b f = let g = body_later n (n + 1) (omega arith) b f in record { opener = g.opener; result = g.result; arguments = g.arguments; locals = push b.locals f.locals; named = g.named; expressions = g.expressions; statements = g.statements }
-
-  pub fine_named : (b : Body) → FineBody n b → FineBody (n + 1) (add_named b i)
-  fine_named b f = let g = body_later n (n + 1) (omega arith) b f in record { opener = g.opener; result = g.result; arguments = g.arguments; locals = g.locals; named = push b.named f.named; expressions = g.expressions; statements = g.statements }
-
-  pub fine_inner : (b : Body) → FineBody n b → FineBody (n + 1) (add_inner b i)
-  fine_inner b f = let g = body_later n (n + 1) (omega arith) b f in record { opener = g.opener; result = g.result; arguments = g.arguments; locals = g.locals; named = g.named; expressions = push b.expressions f.expressions; statements = g.statements }
-
-  pub fine_statement : (b : Body) → FineBody n b → FineBody (n + 1) (add_statement b i)
-  fine_statement b f = let g = body_later n (n + 1) (omega arith) b f in record { opener = g.opener; result = g.result; arguments = g.arguments; locals = g.locals; named = g.named; expressions = g.expressions; statements = push b.statements f.statements }
-
-  pub fine_result : (b : Body) → FineBody n b → Starts i.bytes 14 → i.taken ≡ [] → FineBody (n + 1) (set_result b i)
-  fine_result b f starts bare = let l = f.opener in let g = body_later n (n + 1) (omega arith) b f in record { opener = g.opener; result = record { starts = starts; bare = bare; above = omega arith; below = omega arith }; arguments = g.arguments; locals = g.locals; named = g.named; expressions = g.expressions; statements = g.statements }
-
   pub fine_closed : (b : Body) (j : Item) → FineBody n b → FineBody (n + 1) (closed b j)
-  fine_closed b j f = let g = body_later n (n + 1) (omega arith) b f in record { opener = g.opener; result = g.result; arguments = g.arguments; locals = g.locals; named = g.named; expressions = g.expressions; statements = g.statements }
+  fine_closed b j f = let g = body_later n (n + 1) (omega arith) b f in assumption
 
   pub fine_opened : FineBody (n + 1) (opened_by i)
-  fine_opened = record { opener = omega arith; result = tt; arguments = sorted_none (n + 1); locals = sorted_none (n + 1); named = sorted_none (n + 1); expressions = sorted_none (n + 1); statements = sorted_none (n + 1) }
-
-  -- in a module
-  pub fine_type : (low low' : ℕ) (m : Module) → low ≤ low' → FineModule low n m → FineModule low' (n + 1) (add_type m i)
-  fine_type low low' m h f = let g = module_later low low' n (n + 1) h (omega arith) m f in record { types = push m.types f.types; overrides = g.overrides; constants = g.constants; globals = g.globals; special = g.special; predeclared = g.predeclared; filters = g.filters; leaf = g.leaf; expressions = g.expressions; functions = g.functions; entries = g.entries; in_functions = g.in_functions; in_entries = g.in_entries }
-
-  pub fine_override : (low low' : ℕ) (m : Module) → low ≤ low' → FineModule low n m → FineModule low' (n + 1) (add_override m i)
-  fine_override low low' m h f = let g = module_later low low' n (n + 1) h (omega arith) m f in record { types = g.types; overrides = push m.overrides f.overrides; constants = g.constants; globals = g.globals; special = g.special; predeclared = g.predeclared; filters = g.filters; leaf = g.leaf; expressions = g.expressions; functions = g.functions; entries = g.entries; in_functions = g.in_functions; in_entries = g.in_entries }
-
-  pub fine_constant : (low low' : ℕ) (m : Module) → low ≤ low' → FineModule low n m → FineModule low' (n + 1) (add_constant m i)
-  fine_constant low low' m h f = let g = module_later low low' n (n + 1) h (omega arith) m f in record { types = g.types; overrides = g.overrides; constants = push m.constants f.constants; globals = g.globals; special = g.special; predeclared = g.predeclared; filters = g.filters; leaf = g.leaf; expressions = g.expressions; functions = g.functions; entries = g.entries; in_functions = g.in_functions; in_entries = g.in_entries }
-
-  pub fine_global : (low low' : ℕ) (m : Module) → low ≤ low' → FineModule low n m → FineModule low' (n + 1) (add_global m i)
-  fine_global low low' m h f = let g = module_later low low' n (n + 1) h (omega arith) m f in record { types = g.types; overrides = g.overrides; constants = g.constants; globals = push m.globals f.globals; special = g.special; predeclared = g.predeclared; filters = g.filters; leaf = g.leaf; expressions = g.expressions; functions = g.functions; entries = g.entries; in_functions = g.in_functions; in_entries = g.in_entries }
-
-  pub fine_predeclared : (low low' : ℕ) (m : Module) → low ≤ low' → FineModule low n m → FineModule low' (n + 1) (add_predeclared m i)
-  fine_predeclared low low' m h f = let g = module_later low low' n (n + 1) h (omega arith) m f in record { types = g.types; overrides = g.overrides; constants = g.constants; globals = g.globals; special = g.special; predeclared = push m.predeclared f.predeclared; filters = g.filters; leaf = g.leaf; expressions = g.expressions; functions = g.functions; entries = g.entries; in_functions = g.in_functions; in_entries = g.in_entries }
-
-  pub fine_filter : (low low' : ℕ) (m : Module) → low ≤ low' → FineModule low n m → FineModule low' (n + 1) (add_filter m i)
-  fine_filter low low' m h f = let g = module_later low low' n (n + 1) h (omega arith) m f in record { types = g.types; overrides = g.overrides; constants = g.constants; globals = g.globals; special = g.special; predeclared = g.predeclared; filters = push m.filters f.filters; leaf = g.leaf; expressions = g.expressions; functions = g.functions; entries = g.entries; in_functions = g.in_functions; in_entries = g.in_entries }
-
-  pub fine_expression : (low low' : ℕ) (m : Module) → low ≤ low' → FineModule low n m → FineModule low' (n + 1) (add_expression m i)
-  fine_expression low low' m h f = let g = module_later low low' n (n + 1) h (omega arith) m f in record { types = g.types; overrides = g.overrides; constants = g.constants; globals = g.globals; special = g.special; predeclared = g.predeclared; filters = g.filters; leaf = g.leaf; expressions = push m.expressions f.expressions; functions = g.functions; entries = g.entries; in_functions = g.in_functions; in_entries = g.in_entries }
-
-  pub fine_special : (low low' : ℕ) (m : Module) → low ≤ low' → Starts i.bytes 6 → i.taken ≡ [] → FineModule low n m → FineModule low' (n + 1) (set_special m i)
-  fine_special low low' m h starts bare f = let g = module_later low low' n (n + 1) h (omega arith) m f in record { types = g.types; overrides = g.overrides; constants = g.constants; globals = g.globals; special = record { starts = starts; bare = bare; above = omega arith; below = omega arith }; predeclared = g.predeclared; filters = g.filters; leaf = g.leaf; expressions = g.expressions; functions = g.functions; entries = g.entries; in_functions = g.in_functions; in_entries = g.in_entries }
-
-  pub fine_leaf : (low low' : ℕ) (m : Module) → low ≤ low' → Starts i.bytes 9 → i.taken ≡ [] → FineModule low n m → FineModule low' (n + 1) (set_leaf m i)
-  fine_leaf low low' m h starts bare f = let g = module_later low low' n (n + 1) h (omega arith) m f in record { types = g.types; overrides = g.overrides; constants = g.constants; globals = g.globals; special = g.special; predeclared = g.predeclared; filters = g.filters; leaf = record { starts = starts; bare = bare; above = omega arith; below = omega arith }; expressions = g.expressions; functions = g.functions; entries = g.entries; in_functions = g.in_functions; in_entries = g.in_entries }
+  fine_opened = let l : i.place < n + 1 = omega arith in let s = sorted_none (n + 1) in assumption
 
 -- a body joins its table
 openers_push : (n k : ℕ) (bs : List Body) (b : Body) → n ≤ b.opener.place → b.opener.place < k → Sorted n (map (λ x. x.opener) bs) → Sorted k (map (λ x. x.opener) (bs ++ b ∷ []))
@@ -163,7 +119,17 @@ openers_push n k bs b h l s = subst (Sorted k) (sym (map_push (λ x. x.opener) b
 
 module _ (low n : ℕ) (m : Module) (b : Body) (at : low ≡ b.opener.place) (fine : FineBody n b) where
   pub fine_function : FineModule low n m → FineModule n n (add_function m b)
-  fine_function f = let l = fine.opener in let g = module_later low n n n (omega arith) (omega arith) m f in record { types = g.types; overrides = g.overrides; constants = g.constants; globals = g.globals; special = g.special; predeclared = g.predeclared; filters = g.filters; leaf = g.leaf; expressions = g.expressions; functions = openers_push low n m.functions b (omega arith) l f.functions; entries = g.entries; in_functions = All-push (FineBody n) m.functions b f.in_functions fine; in_entries = g.in_entries }
+  fine_function f =
+      let l = fine.opener in
+      let g = module_later low n n n (omega arith) (omega arith) m f in
+      let o = openers_push low n m.functions b (omega arith) l f.functions in
+      let a = All-push (FineBody n) m.functions b f.in_functions fine in
+      assumption
 
   pub fine_entry : FineModule low n m → FineModule n n (add_entry m b)
-  fine_entry f = let l = fine.opener in let g = module_later low n n n (omega arith) (omega arith) m f in record { types = g.types; overrides = g.overrides; constants = g.constants; globals = g.globals; special = g.special; predeclared = g.predeclared; filters = g.filters; leaf = g.leaf; expressions = g.expressions; functions = g.functions; entries = openers_push low n m.entries b (omega arith) l f.entries; in_functions = g.in_functions; in_entries = All-push (FineBody n) m.entries b f.in_entries fine }
+  fine_entry f =
+      let l = fine.opener in
+      let g = module_later low n n n (omega arith) (omega arith) m f in
+      let o = openers_push low n m.entries b (omega arith) l f.entries in
+      let a = All-push (FineBody n) m.entries b f.in_entries fine in
+      assumption

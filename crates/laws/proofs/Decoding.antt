@@ -1,18 +1,17 @@
 -- Every kept record stands in the module once, and each table is in order of arrival.
-use Rattle.std.proofs.Common.{◌≡◌, ℕ, ◌+◌, ◌≤◌, true, false, List, [], ◌∷◌, ◌++◌, length, is_some, sum_by, sym, refl, ap, ◌∙◌, inl, inr, ⊎_elim, arith, length-append, Some, None, Option}
+use Rattle.std.proofs.Common.{◌≡◌, ℕ, ◌+◌, ◌≤◌, true, false, List, [], ◌∷◌, ◌++◌, length, sum_by, sym, refl, ap, ◌∙◌, inl, inr, ⊎_elim, arith, length-append, Some, None, Option}
 use Rattle.std.specs.Option.{IsSome}
 use Rattle.std.specs.List.{ContainsAt as Has, enumerate_from, AllByRecursion}
 use Rattle.std.proofs.ByRecursion.{All-push, All-weaker, All-append, has_append_left, has_append_right, has_push}
 use Rattle.std.proofs.lemmas.List.Sums.{sum_by-append}
-use Rattle.std.proofs.lemmas.Bool.{and_parts}
 use Rattle.ir.specs.declared.kinds.Kind.{Kind}
 use Rattle.draft.specs.declared.state.BodyKind.{BodyKind}
 use Rattle.draft.specs.declared.state.BodyKind.TheVariants as body_kind
 use Rattle.draft.specs.declared.state.Pieces.{Pieces}
 use Rattle.draft.specs.declared.manner.Manner.{Manner}
-use Rattle.draft.specs.Manner.{manner_of, turn_of}
+use Rattle.draft.specs.Manner.{manner_of}
 use Rattle.rules.specs.Module.{Record, Body, Module}
-use Rattle.draft.specs.State.{State, start, state, stepped, item_of, waiting_after, meets, on_side, innermost, functions_now, entries_now}
+use Rattle.draft.specs.State.{State, start, state, stepped, item_of, waiting_after, meets, functions_now, entries_now}
 use Rattle.draft.specs.Admitted.{Accepted}
 use Rattle.draft.proofs.Stepping.{Admits, throughout}
 use Rattle.laws.specs.Decoded.{Entry, bodies, Replaced, BodyArrived, ModuleArrived, Decoded}
@@ -47,9 +46,7 @@ none_waits (Some p) n h j t = let f : false ≡ true = simp (j, t) at h in absur
 
 sound_next : (m : List Record) (s : State) (r : Record) (k : Kind) → Admits s r k → Sound m s → Sound (m ++ r ∷ []) (stepped k r s)
 sound_next m s r k a x =
-    let p = and_parts (meets s.waits (manner_of k)) _ a.stands_well in
-    let side : on_side s.opened (manner_of k).side ≡ true = (and_parts (on_side s.opened (manner_of k).side) (is_some (turn_of (innermost s.brackets) (manner_of k).motion)) p.1).0 in
-    let v = moved_at s.kept (item_of s r) refl s.built s.body k s.opened x.good side (starts_so k r a.kind_is) (λ j t. x.idle (none_waits s.waits (manner_of k) p.0 j t)) in
+    let v = moved_at s.kept (item_of s r) refl s.built s.body k s.opened x.good a.on_its_side (starts_so k r a.kind_is) (λ j t. x.idle (none_waits s.waits (manner_of k) a.allowed j t)) in
     let here = ReplacedAt s.built s.opened s.body in
     let there = ReplacedAt (stepped k r s).built (stepped k r s).opened (stepped k r s).body in
     record {

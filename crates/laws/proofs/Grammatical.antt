@@ -1,7 +1,6 @@
 -- The statements of every body that has ended are a block.
 use Rattle.std.proofs.Common.{◌≡◌, ℕ, true, List, [], ◌∷◌, ◌++◌, is_some, Ok, sym, refl, ap, ◌∙◌, subst, append_assoc, append-nil, Some, None, Option}
 use Rattle.std.specs.List.{AllByRecursion}
-use Rattle.std.proofs.lemmas.Bool.{and_parts}
 use Rattle.std.proofs.ByRecursion.{All-push}
 use Rattle.ir.specs.declared.kinds.Kind.{Kind}
 use Rattle.ir.specs.declared.kinds.Kind.TheVariants as kind
@@ -13,8 +12,8 @@ use Rattle.draft.specs.declared.state.BodyKind.TheVariants as body_kind
 use Rattle.draft.specs.declared.state.Bracket.{Bracket}
 use Rattle.draft.specs.declared.manner.Side.TheVariants as side
 use Rattle.draft.specs.declared.manner.Motion.TheVariants as motion
-use Rattle.draft.specs.Manner.{manner_of, turn_of}
-use Rattle.draft.specs.State.{State, start, stepped, state, innermost, turned, on_side, meets, item_of, module_after, body_after}
+use Rattle.draft.specs.Manner.{turn_of}
+use Rattle.draft.specs.State.{State, start, stepped, state, innermost, turned, on_side, item_of, module_after, body_after}
 use Rattle.draft.specs.Admitted.{Accepted}
 use Rattle.draft.proofs.Tallying.{statement_stays}
 use Rattle.draft.proofs.Stepping.{Admits, throughout, outside_only}
@@ -35,24 +34,11 @@ record Running (s : State) : Type 0 where
   so_far : (tail : List ℕ) → Closing s.brackets tail → Block (kinds s.body.statements ++ tail)
   outside : s.opened ≡ None → s.brackets ≡ []
 
--- what a record in place says: its side, and that it fits the brackets
-record Placed (s : State) (k : Kind) : Type 0 where
-  on : on_side s.opened (manner_of k).side ≡ true
-  turns : is_some (turn_of (innermost s.brackets) (manner_of k).motion) ≡ true
-
--- an admitted record is in place
-placed : (s : State) (r : Record) (k : Kind) → Admits s r k → Placed s k
-placed s r k a =
-    let p = and_parts (meets s.waits (manner_of k)) _ a.stands_well in
-    let q = and_parts (on_side s.opened (manner_of k).side) (is_some (turn_of (innermost s.brackets) (manner_of k).motion)) p.1 in
-    record { on = q.0; turns = q.1 }
-
 -- inside of a body one is open
 not_outside : (o : Option BodyKind) (bs : List Bracket) → on_side o side.Inside ≡ true → o ≡ None → bs ≡ []
 not_outside None bs h e = absurd cc
 not_outside (Some k) bs h e = absurd cc
 
--- outside of every body none is
 -- where a body may end, no bracket is open
 no_bracket : (bs : List Bracket) → is_some (turn_of (innermost bs) motion.Finish) ≡ true → bs ≡ []
 no_bracket [] h = refl
@@ -108,14 +94,13 @@ module _ (s : State) (r : Record) (w : Running s) where
   -- each record keeps it
   next : (k : Kind) → Admits s r k → Running (stepped k r s)
   next kind.Function a =
-      let none = w.outside (outside_only s.opened (placed s r kind.Function a).on) in
+      let none = w.outside (outside_only s.opened a.on_its_side) in
       record { functions = w.functions; entries = w.entries; so_far = λ tail c. subst (λ l. Closing l tail) none c; outside = λ o. none }
   next kind.EntryPoint a =
-      let none = w.outside (outside_only s.opened (placed s r kind.EntryPoint a).on) in
+      let none = w.outside (outside_only s.opened a.on_its_side) in
       record { functions = w.functions; entries = w.entries; so_far = λ tail c. subst (λ l. Closing l tail) none c; outside = λ o. none }
   next kind.EndFunction a =
-      let p = placed s r kind.EndFunction a in
-      let none = no_bracket s.brackets p.turns in
+      let none = no_bracket s.brackets a.turns in
       let gone : turned (turn_of (innermost s.brackets) motion.Finish) s.brackets ≡ [] = ap (λ l. turned (turn_of (innermost l) motion.Finish) l) none in
       let block = whole s.brackets (kinds s.body.statements) none w.so_far in
       record {
@@ -125,46 +110,36 @@ module _ (s : State) (r : Record) (w : Running s) where
         outside = λ o. gone;
       }
   next (kind.Expression e) a = stays (stepped (kind.Expression e) r s) (functions_still (item_of s r) s.opened e s.body s.built) (entries_still (item_of s r) s.opened e s.body s.built) (statements_still (item_of s r) s.opened e s.body) refl refl
-  next (kind.Statement c) a =
-      let p = placed s r (kind.Statement c) a in
-      record {
-        functions = w.functions;
-        entries = w.entries;
-        so_far = λ tail x. said (kind.Statement c) a.kind_is tail (statement_turn c s.brackets tail p.turns x);
-        outside = λ o. not_outside s.opened _ p.on (sym (statement_stays c s.opened) ∙ o);
-      }
-  next kind.End a =
-      let p = placed s r kind.End a in
-      record {
-        functions = w.functions;
-        entries = w.entries;
-        so_far = λ tail x. said kind.End a.kind_is tail (end_turn s.brackets tail p.turns x);
-        outside = not_outside s.opened _ p.on;
-      }
-  next kind.EndLoop a =
-      let p = placed s r kind.EndLoop a in
-      record {
-        functions = w.functions;
-        entries = w.entries;
-        so_far = λ tail x. said kind.EndLoop a.kind_is tail (loop_end_turn s.brackets tail p.turns x);
-        outside = not_outside s.opened _ p.on;
-      }
-  next kind.Case a =
-      let p = placed s r kind.Case a in
-      record {
-        functions = w.functions;
-        entries = w.entries;
-        so_far = λ tail x. said kind.Case a.kind_is tail (case_turn s.brackets tail p.turns x);
-        outside = not_outside s.opened _ p.on;
-      }
-  next kind.EndSwitch a =
-      let p = placed s r kind.EndSwitch a in
-      record {
-        functions = w.functions;
-        entries = w.entries;
-        so_far = λ tail x. said kind.EndSwitch a.kind_is tail (switch_end_turn s.brackets tail p.turns x);
-        outside = not_outside s.opened _ p.on;
-      }
+  next (kind.Statement c) a = record {
+    functions = w.functions;
+    entries = w.entries;
+    so_far = λ tail x. said (kind.Statement c) a.kind_is tail (statement_turn c s.brackets tail a.turns x);
+    outside = λ o. not_outside s.opened _ a.on_its_side (sym (statement_stays c s.opened) ∙ o);
+  }
+  next kind.End a = record {
+    functions = w.functions;
+    entries = w.entries;
+    so_far = λ tail x. said kind.End a.kind_is tail (end_turn s.brackets tail a.turns x);
+    outside = not_outside s.opened _ a.on_its_side;
+  }
+  next kind.EndLoop a = record {
+    functions = w.functions;
+    entries = w.entries;
+    so_far = λ tail x. said kind.EndLoop a.kind_is tail (loop_end_turn s.brackets tail a.turns x);
+    outside = not_outside s.opened _ a.on_its_side;
+  }
+  next kind.Case a = record {
+    functions = w.functions;
+    entries = w.entries;
+    so_far = λ tail x. said kind.Case a.kind_is tail (case_turn s.brackets tail a.turns x);
+    outside = not_outside s.opened _ a.on_its_side;
+  }
+  next kind.EndSwitch a = record {
+    functions = w.functions;
+    entries = w.entries;
+    so_far = λ tail x. said kind.EndSwitch a.kind_is tail (switch_end_turn s.brackets tail a.turns x);
+    outside = not_outside s.opened _ a.on_its_side;
+  }
   next k a = stays (stepped k r s) refl refl refl refl refl
 
 running : (m : List Record) → Accepted start m → Running (state m)

@@ -3,7 +3,7 @@ use Rattle.std.proofs.Common.{◌≡◌, ℕ, ◌<◌, ◌≤◌, Bool, true, fa
 use Rattle.std.proofs.lemmas.Bool.{cases_lt, lt-leb, ne_eqb, leb-true, and_parts, and_right, cond-false}
 use Rattle.ir.specs.declared.kinds.Kind.{Kind}
 use Rattle.ir.specs.Layout.{layout, size_of}
-use Rattle.ir.specs.Number.{kind_of, number_of, within, others}
+use Rattle.ir.specs.Number.{kind_of, number_of, within, others, found}
 use Rattle.ir.proofs.Numbering.{only_number}
 use Rattle.records.specs.declared.judge.Flaw.TheVariants.{WrongLength, BadField}
 use Rattle.records.specs.Record.{judged, judged_parts, body_of, fields_fit}
@@ -11,21 +11,17 @@ use Rattle.rules.specs.Module.{Record, Item}
 use Rattle.laws.specs.Decoded.{Starts}
 use Rattle.laws.specs.Grammar.{kind_byte, kinds}
 
--- a number above the bytes is no row's
-abbrev sought : ℕ → List (ℕ × Kind) → Option Kind
-sought n [] = None
-sought n (row ∷ rows) = cond (eqb n row.0) (Some row.1) (sought n rows)
-
 abbrev small_rows : List (ℕ × Kind) → Bool
 small_rows [] = true
 small_rows (row ∷ rows) = leb row.0 255 && small_rows rows
 
-no_row : (b : ℕ) (rows : List (ℕ × Kind)) → 256 ≤ b → small_rows rows ≡ true → sought b rows ≡ None
+-- a number above the bytes is no row's
+no_row : (b : ℕ) (rows : List (ℕ × Kind)) → 256 ≤ b → small_rows rows ≡ true → found b rows ≡ None
 no_row b [] h e = refl
 no_row b (row ∷ rows) h e =
     let p = and_parts (leb row.0 255) (small_rows rows) e in
     let l = leb-true row.0 255 p.0 in
-    cond-false (eqb b row.0) (Some row.1) (sought b rows) (ne_eqb b row.0 (λ same. omega arith)) ∙ no_row b rows h p.1
+    cond-false (eqb b row.0) (Some row.1) (found b rows) (ne_eqb b row.0 (λ same. omega arith)) ∙ no_row b rows h p.1
 
 -- nor is it in a range of bytes
 not_within : (low high b : ℕ) → high < b → within low high b ≡ false

@@ -16,8 +16,8 @@ use Rattle.draft.specs.Manner.{manner_of}
 use Rattle.rules.specs.Module.{Item, Body, Module, nobody, opened_by, add_type, add_override, add_constant, add_global, set_special, add_predeclared, add_filter, set_leaf, add_expression, add_function, add_entry, add_argument, set_result, add_local, add_named, add_inner, add_statement, closed}
 use Rattle.draft.specs.State.{on_side, open_after, module_after, body_after}
 use Rattle.laws.specs.Decoded.{Entry, entries_of_any, Later, Starts}
-use Rattle.laws.proofs.Weighing.{item_weight, body_weight, open_weight, module_weight, standing_weight, any_weighs, type_weight, override_weight, constant_weight, global_weight, predeclared_weight, filter_weight, expression_weight, special_weight, leaf_weight, function_weight, entry_weight, argument_weight, result_weight, local_weight, named_weight, inner_weight, statement_weight, closed_weight, opened_weight}
-use Rattle.laws.proofs.Arriving.{Marked, FineBody, FineModule, body_later, module_later, fine_argument, fine_result, fine_local, fine_named, fine_inner, fine_statement, fine_closed, fine_opened, fine_type, fine_override, fine_constant, fine_global, fine_special, fine_predeclared, fine_filter, fine_leaf, fine_expression, fine_function, fine_entry}
+use Rattle.laws.proofs.Weighing.{item_weight, body_weight, open_weight, module_weight, standing_weight, any_weighs, list_weight, push_weight, bodies_push_weight, closed_weight, opened_weight}
+use Rattle.laws.proofs.Arriving.{Sorted, Marked, FineBody, FineModule, body_later, module_later, marked, push, fine_closed, fine_opened, fine_function, fine_entry}
 
 -- the bodies that ended were opened before the open one, else before n
 abbrev pub low_of : Option BodyKind → ℕ → ℕ → ℕ
@@ -103,54 +103,57 @@ module _ (n : ℕ) (i : Item) (at : i.place ≡ n) (m : Module) (o : Option Body
     once = λ w. let z = none w in omega arith;
   }
 
-  -- an item more in the module
-  into_module : (m' : Module) → FineModule next_low (n + 1) m' → ((e : Entry) → ReplacedAt m o b e → ReplacedAt m' o b e) → ((w : Entry → ℕ) → module_weight w m' ≡ module_weight w m + item_weight w i) → Moved n None i m o b m' o b
-  into_module m' fine carried weighs = record {
-    good = record { built = fine; body = body_next; unended = good.unended };
+  -- an item more in a table of the module
+  into_module : (xs : List Item) → Sorted n xs → (m' : Module) → (Sorted (n + 1) (xs ++ i ∷ []) → FineModule next_low (n + 1) m → FineModule next_low (n + 1) m') → ((e : Entry) → ReplacedAt m o b e → ReplacedAt m' o b e) → ((w : Entry → ℕ) → module_weight w m' + list_weight w xs ≡ module_weight w m + list_weight w (xs ++ i ∷ [])) → Moved n None i m o b m' o b
+  into_module xs sorted m' fine carried weighs = record {
+    good = record { built = fine (push n i at xs sorted) built_next; body = body_next; unended = good.unended };
     carried = carried;
     gone = [];
     replaced = tt;
-    once = λ w. let z = weighs w in omega arith;
+    once = λ w. let z = weighs w in let y = push_weight w xs i in omega arith;
   }
 
   special_moved : Starts i.bytes 6 → i.taken ≡ [] → Moved n None i m o b (set_special m i) o b
+  unfolding module_weight
   special_moved starts bare = record {
-    good = record { built = fine_special n i at low next_low m low_grows starts bare good.built; body = body_next; unended = good.unended };
+    good = record { built = let x = marked n i at 6 0 (omega arith) starts bare in let y = built_next in assumption; body = body_next; unended = good.unended };
     carried = λ e. ⊎_elim (λ x. inl (x.0, later_grows 6 0 n m.special i good.built.special at e.0 x.1)) inr;
     gone = entries_of_any m.special;
     replaced = fallen (ReplacedAt (set_special m i) o b) 6 0 n m.special good.built.special (λ e s l h. inl (s, omega arith));
-    once = λ w. let z = special_weight w m i in let y = any_weighs w m.special in omega arith;
+    once = λ w. let y = any_weighs w m.special in omega arith;
   }
 
   leaf_moved : Starts i.bytes 9 → i.taken ≡ [] → Moved n None i m o b (set_leaf m i) o b
+  unfolding module_weight
   leaf_moved starts bare = record {
-    good = record { built = fine_leaf n i at low next_low m low_grows starts bare good.built; body = body_next; unended = good.unended };
+    good = record { built = let x = marked n i at 9 0 (omega arith) starts bare in let y = built_next in assumption; body = body_next; unended = good.unended };
     carried = λ e. ⊎_elim inl (⊎_elim (λ x. inr (inl (x.0, later_grows 9 0 n m.leaf i good.built.leaf at e.0 x.1))) (λ x. inr (inr x)));
     gone = entries_of_any m.leaf;
     replaced = fallen (ReplacedAt (set_leaf m i) o b) 9 0 n m.leaf good.built.leaf (λ e s l h. inr (inl (s, omega arith)));
-    once = λ w. let z = leaf_weight w m i in let y = any_weighs w m.leaf in omega arith;
+    once = λ w. let y = any_weighs w m.leaf in omega arith;
   }
 
   module _ (inside : IsSome o) where
-    -- an item more in the open body
-    into_body : (b' : Body) → b'.opener ≡ b.opener → b'.ending ≡ b.ending → FineBody (n + 1) b' → ((e : Entry) → ReplacedAt m o b e → ReplacedAt m o b' e) → ((w : Entry → ℕ) → body_weight w b' ≡ body_weight w b + item_weight w i) → Moved n None i m o b m o b'
-    into_body b' same ends fine carried weighs = record {
-      good = record { built = subst (λ x. FineModule (low_of o x.place (n + 1)) (n + 1) m) (sym same) built_next; body = λ h. fine; unended = ends ∙ good.unended };
+    -- an item more in a table of the open body
+    into_body : (xs : List Item) → Sorted n xs → (b' : Body) → b'.opener ≡ b.opener → b'.ending ≡ b.ending → (Sorted (n + 1) (xs ++ i ∷ []) → FineBody (n + 1) b → FineBody (n + 1) b') → ((e : Entry) → ReplacedAt m o b e → ReplacedAt m o b' e) → ((w : Entry → ℕ) → body_weight w b' + list_weight w xs ≡ body_weight w b + list_weight w (xs ++ i ∷ [])) → Moved n None i m o b m o b'
+    into_body xs sorted b' same ends fine carried weighs = record {
+      good = record { built = subst (λ x. FineModule (low_of o x.place (n + 1)) (n + 1) m) (sym same) built_next; body = λ h. fine (push n i at xs sorted) (body_next inside); unended = ends ∙ good.unended };
       carried = carried;
       gone = [];
       replaced = tt;
-      once = λ w. let z = weighs w in let x = open_is w o b inside in let y = open_is w o b' inside in omega arith;
+      once = λ w. let z = weighs w in let v = push_weight w xs i in let x = open_is w o b inside in let y = open_is w o b' inside in omega arith;
     }
 
     result_moved : Starts i.bytes 14 → i.taken ≡ [] → Moved n None i m o b m o (set_result b i)
+    unfolding body_weight
     result_moved starts bare =
         let f = good.body inside in
         record {
-          good = record { built = built_next; body = λ h. fine_result n i at b f starts bare; unended = good.unended };
+          good = record { built = built_next; body = λ h. let l = f.opener in let x = marked n i at 14 (b.opener.place + 1) (omega arith) starts bare in let y = body_next inside in assumption; unended = good.unended };
           carried = λ e. ⊎_elim inl (⊎_elim (λ x. inr (inl x)) (λ x. inr (inr (x.0, ⊎_elim inl (⊎_elim (λ y. inr (inl y)) (λ y. inr (inr (y.0, y.1, later_grows 14 (b.opener.place + 1) n b.result i f.result at e.0 y.2)))) x.1))));
           gone = entries_of_any b.result;
           replaced = fallen (ReplacedAt m o (set_result b i)) 14 (b.opener.place + 1) n b.result f.result (λ e s l h. inr (inr (s, inr (inr (inside, omega arith, omega arith)))));
-          once = λ w. let z = result_weight w b i in let v = any_weighs w b.result in let x = open_is w o b inside in let y = open_is w o (set_result b i) inside in omega arith;
+          once = λ w. let v = any_weighs w b.result in let x = open_is w o b inside in let y = open_is w o (set_result b i) inside in omega arith;
         }
 
 -- a body that opens
@@ -188,6 +191,7 @@ module _ (n : ℕ) (i : Item) (at : i.place ≡ n) (m : Module) (b : Body) where
   over_more bs p y = (y.0, has_append_left bs (closed b i ∷ []) y.0 y.1, y.2, y.3)
 
   function_ends : Good m (Some body_kind.Function) b n → Moved n None i m (Some body_kind.Function) b (add_function m (closed b i)) None nobody
+  unfolding module_weight
   function_ends good =
       let f = fine_closed n i at b i (good.body refl) in
       let g = module_later b.opener.place b.opener.place n (n + 1) (omega arith) (omega arith) m good.built in
@@ -196,10 +200,11 @@ module _ (n : ℕ) (i : Item) (at : i.place ≡ n) (m : Module) (b : Body) where
         carried = λ e. ⊎_elim inl (⊎_elim (λ x. inr (inl x)) (λ x. inr (inr (x.0, ⊎_elim (λ y. inl (over_more m.functions e.0 y)) (⊎_elim (λ y. inr (inl y)) (λ y. inl (over_closed m.functions (Some body_kind.Function) e.0 y))) x.1))));
         gone = [];
         replaced = tt;
-        once = λ w. let z = function_weight w m (closed b i) in let y = closed_weight w b i good.unended in omega arith;
+        once = λ w. let z = bodies_push_weight w m.functions (closed b i) in let y = closed_weight w b i good.unended in omega arith;
       }
 
   entry_ends : Good m (Some body_kind.EntryPoint) b n → Moved n None i m (Some body_kind.EntryPoint) b (add_entry m (closed b i)) None nobody
+  unfolding module_weight
   entry_ends good =
       let f = fine_closed n i at b i (good.body refl) in
       let g = module_later b.opener.place b.opener.place n (n + 1) (omega arith) (omega arith) m good.built in
@@ -208,7 +213,7 @@ module _ (n : ℕ) (i : Item) (at : i.place ≡ n) (m : Module) (b : Body) where
         carried = λ e. ⊎_elim inl (⊎_elim (λ x. inr (inl x)) (λ x. inr (inr (x.0, ⊎_elim inl (⊎_elim (λ y. inr (inl (over_more m.entries e.0 y))) (λ y. inr (inl (over_closed m.entries (Some body_kind.EntryPoint) e.0 y)))) x.1))));
         gone = [];
         replaced = tt;
-        once = λ w. let z = entry_weight w m (closed b i) in let y = closed_weight w b i good.unended in omega arith;
+        once = λ w. let z = bodies_push_weight w m.entries (closed b i) in let y = closed_weight w b i good.unended in omega arith;
       }
 
 module _ (n : ℕ) (i : Item) (at : i.place ≡ n) (m : Module) (b : Body) where
@@ -216,28 +221,29 @@ module _ (n : ℕ) (i : Item) (at : i.place ≡ n) (m : Module) (b : Body) where
   After k o = Moved n (manner_of k).joins i m o b (module_after k o b i m) (open_after (manner_of k).motion o) (body_after k o i b)
 
   pub moved_at : (k : Kind) (o : Option BodyKind) → Good m o b n → on_side o (manner_of k).side ≡ true → Starts i.bytes (number_of k) → ((manner_of k).joins ≡ None → (manner_of k).takes ≡ None → i.taken ≡ []) → After k o
+  unfolding module_weight body_weight
   moved_at kind.Member o g h s t = waits_moved n i at m o b g (Some pieces.Members) (λ w. refl)
   moved_at kind.Operand o g h s t = waits_moved n i at m o b g (Some pieces.Operands) (λ w. refl)
-  moved_at kind.Override o g h s t = into_module n i at m o b g (add_override m i) (fine_override n i at (low_of o b.opener.place n) (low_of o b.opener.place (n + 1)) m (low_later o b.opener.place n) g.built) (λ e x. x) (λ w. override_weight w m i)
-  moved_at kind.Constant o g h s t = into_module n i at m o b g (add_constant m i) (fine_constant n i at (low_of o b.opener.place n) (low_of o b.opener.place (n + 1)) m (low_later o b.opener.place n) g.built) (λ e x. x) (λ w. constant_weight w m i)
-  moved_at kind.GlobalVariable o g h s t = into_module n i at m o b g (add_global m i) (fine_global n i at (low_of o b.opener.place n) (low_of o b.opener.place (n + 1)) m (low_later o b.opener.place n) g.built) (λ e x. x) (λ w. global_weight w m i)
+  moved_at kind.Override o g h s t = into_module n i at m o b g m.overrides g.built.overrides (add_override m i) (λ x y. assumption) (λ e x. x) (λ w. omega arith)
+  moved_at kind.Constant o g h s t = into_module n i at m o b g m.constants g.built.constants (add_constant m i) (λ x y. assumption) (λ e x. x) (λ w. omega arith)
+  moved_at kind.GlobalVariable o g h s t = into_module n i at m o b g m.globals g.built.globals (add_global m i) (λ x y. assumption) (λ e x. x) (λ w. omega arith)
   moved_at kind.SpecialTypes o g h s t = special_moved n i at m o b g s (t refl refl)
-  moved_at kind.Predeclared o g h s t = into_module n i at m o b g (add_predeclared m i) (fine_predeclared n i at (low_of o b.opener.place n) (low_of o b.opener.place (n + 1)) m (low_later o b.opener.place n) g.built) (λ e x. x) (λ w. predeclared_weight w m i)
-  moved_at kind.Filter o g h s t = into_module n i at m o b g (add_filter m i) (fine_filter n i at (low_of o b.opener.place n) (low_of o b.opener.place (n + 1)) m (low_later o b.opener.place n) g.built) (λ e x. x) (λ w. filter_weight w m i)
+  moved_at kind.Predeclared o g h s t = into_module n i at m o b g m.predeclared g.built.predeclared (add_predeclared m i) (λ x y. assumption) (λ e x. x) (λ w. omega arith)
+  moved_at kind.Filter o g h s t = into_module n i at m o b g m.filters g.built.filters (add_filter m i) (λ x y. assumption) (λ e x. x) (λ w. omega arith)
   moved_at kind.Leaf o g h s t = leaf_moved n i at m o b g s (t refl refl)
   moved_at kind.Function None g h s t = function_opens n i at m b g
   moved_at kind.Function (Some k) g h s t = absurd cc
   moved_at kind.EntryPoint None g h s t = entry_opens n i at m b g
   moved_at kind.EntryPoint (Some k) g h s t = absurd cc
-  moved_at kind.FunctionArgument o g h s t = into_body n i at m o b g h (add_argument b i) refl refl (fine_argument n i at b (g.body h)) (λ e x. x) (λ w. argument_weight w b i)
+  moved_at kind.FunctionArgument o g h s t = into_body n i at m o b g h b.arguments (g.body h).arguments (add_argument b i) refl refl (λ x y. assumption) (λ e x. x) (λ w. omega arith)
   moved_at kind.FunctionResult o g h s t = result_moved n i at m o b g h s (t refl refl)
-  moved_at kind.LocalVariable o g h s t = into_body n i at m o b g h (add_local b i) refl refl (fine_local n i at b (g.body h)) (λ e x. x) (λ w. local_weight w b i)
-  moved_at (kind.Type c) o g h s t = into_module n i at m o b g (add_type m i) (fine_type n i at (low_of o b.opener.place n) (low_of o b.opener.place (n + 1)) m (low_later o b.opener.place n) g.built) (λ e x. x) (λ w. type_weight w m i)
-  moved_at kind.Named o g h s t = into_body n i at m o b g h (add_named b i) refl refl (fine_named n i at b (g.body h)) (λ e x. x) (λ w. named_weight w b i)
+  moved_at kind.LocalVariable o g h s t = into_body n i at m o b g h b.locals (g.body h).locals (add_local b i) refl refl (λ x y. assumption) (λ e x. x) (λ w. omega arith)
+  moved_at (kind.Type c) o g h s t = into_module n i at m o b g m.types g.built.types (add_type m i) (λ x y. assumption) (λ e x. x) (λ w. omega arith)
+  moved_at kind.Named o g h s t = into_body n i at m o b g h b.named (g.body h).named (add_named b i) refl refl (λ x y. assumption) (λ e x. x) (λ w. omega arith)
   moved_at kind.EndFunction None g h s t = absurd cc
   moved_at kind.EndFunction (Some body_kind.Function) g h s t = function_ends n i at m b g
   moved_at kind.EndFunction (Some body_kind.EntryPoint) g h s t = entry_ends n i at m b g
-  moved_at (kind.Expression e) None g h s t = into_module n i at m None b g (add_expression m i) (fine_expression n i at n (n + 1) m (low_later None b.opener.place n) g.built) (λ e x. x) (λ w. expression_weight w m i)
-  moved_at (kind.Expression e) (Some k) g h s t = into_body n i at m (Some k) b g refl (add_inner b i) refl refl (fine_inner n i at b (g.body refl)) (λ e x. x) (λ w. inner_weight w b i)
-  moved_at (kind.Statement c) o g h s t = subst (λ p. Moved n None i m o b m p (add_statement b i)) (sym (statement_stays c o)) (into_body n i at m o b g h (add_statement b i) refl refl (fine_statement n i at b (g.body h)) (λ e x. x) (λ w. statement_weight w b i))
-  moved_at k o g h s t = into_body n i at m o b g h (add_statement b i) refl refl (fine_statement n i at b (g.body h)) (λ e x. x) (λ w. statement_weight w b i)
+  moved_at (kind.Expression e) None g h s t = into_module n i at m None b g m.expressions g.built.expressions (add_expression m i) (λ x y. assumption) (λ e x. x) (λ w. omega arith)
+  moved_at (kind.Expression e) (Some k) g h s t = into_body n i at m (Some k) b g refl b.expressions (g.body refl).expressions (add_inner b i) refl refl (λ x y. assumption) (λ e x. x) (λ w. omega arith)
+  moved_at (kind.Statement c) o g h s t = subst (λ p. Moved n None i m o b m p (add_statement b i)) (sym (statement_stays c o)) (into_body n i at m o b g h b.statements (g.body h).statements (add_statement b i) refl refl (λ x y. assumption) (λ e x. x) (λ w. omega arith))
+  moved_at k o g h s t = into_body n i at m o b g h b.statements (g.body h).statements (add_statement b i) refl refl (λ x y. assumption) (λ e x. x) (λ w. omega arith)

@@ -4,7 +4,7 @@ use Rattle.std.specs.List.{flat_map, enumerate_from}
 use Rattle.std.proofs.lemmas.List.Sums.{sum_by-cons, sum_by-append, sum_by_push}
 use Rattle.draft.specs.declared.state.BodyKind.{BodyKind}
 use Rattle.draft.specs.declared.state.BodyKind.TheVariants as body_kind
-use Rattle.rules.specs.Module.{Record, Item, Body, Module, opened_by, add_type, add_override, add_constant, add_global, set_special, add_predeclared, add_filter, set_leaf, add_expression, add_function, add_entry, add_argument, set_result, add_local, add_named, add_inner, add_statement, closed}
+use Rattle.rules.specs.Module.{Record, Item, Body, Module, opened_by, closed}
 use Rattle.draft.specs.State.{State, functions_now, entries_now}
 use Rattle.laws.specs.Decoded.{Entry, entries_of, entries_of_any, items_entries, body_entries, bodies, standing}
 
@@ -148,81 +148,9 @@ module _ (w : Entry → ℕ) where
       let e : 0 + length m ≡ length m = omega arith in
       ap (sum_by w) (numbered_push 0 m r) ∙ sum_by_push w (enumerate_from 0 m) (0 + length m, r) ∙ ap (λ k. sum_by w (enumerate_from 0 m) + w (k, r)) e
 
--- an item more in a module
-module _ (w : Entry → ℕ) (m : Module) where
-  pub type_weight : (i : Item) → module_weight w (add_type m i) ≡ module_weight w m + item_weight w i
-  unfolding module_weight
-  type_weight i = let e = push_weight w m.types i in omega arith
-
-  pub override_weight : (i : Item) → module_weight w (add_override m i) ≡ module_weight w m + item_weight w i
-  unfolding module_weight
-  override_weight i = let e = push_weight w m.overrides i in omega arith
-
-  pub constant_weight : (i : Item) → module_weight w (add_constant m i) ≡ module_weight w m + item_weight w i
-  unfolding module_weight
-  constant_weight i = let e = push_weight w m.constants i in omega arith
-
-  pub global_weight : (i : Item) → module_weight w (add_global m i) ≡ module_weight w m + item_weight w i
-  unfolding module_weight
-  global_weight i = let e = push_weight w m.globals i in omega arith
-
-  pub predeclared_weight : (i : Item) → module_weight w (add_predeclared m i) ≡ module_weight w m + item_weight w i
-  unfolding module_weight
-  predeclared_weight i = let e = push_weight w m.predeclared i in omega arith
-
-  pub filter_weight : (i : Item) → module_weight w (add_filter m i) ≡ module_weight w m + item_weight w i
-  unfolding module_weight
-  filter_weight i = let e = push_weight w m.filters i in omega arith
-
-  pub expression_weight : (i : Item) → module_weight w (add_expression m i) ≡ module_weight w m + item_weight w i
-  unfolding module_weight
-  expression_weight i = let e = push_weight w m.expressions i in omega arith
-
-  pub special_weight : (i : Item) → module_weight w (set_special m i) + any_weight w m.special ≡ module_weight w m + item_weight w i
-  unfolding module_weight
-  special_weight i = omega arith
-
-  pub leaf_weight : (i : Item) → module_weight w (set_leaf m i) + any_weight w m.leaf ≡ module_weight w m + item_weight w i
-  unfolding module_weight
-  leaf_weight i = omega arith
-
-  pub function_weight : (b : Body) → module_weight w (add_function m b) ≡ module_weight w m + body_weight w b
-  unfolding module_weight
-  function_weight b = let e = bodies_push_weight w m.functions b in omega arith
-
-  pub entry_weight : (b : Body) → module_weight w (add_entry m b) ≡ module_weight w m + body_weight w b
-  unfolding module_weight
-  entry_weight b = let e = bodies_push_weight w m.entries b in omega arith
-
--- an item more in a body
-module _ (w : Entry → ℕ) (b : Body) where
-  pub argument_weight : (i : Item) → body_weight w (add_argument b i) ≡ body_weight w b + item_weight w i
-  unfolding body_weight
-  argument_weight i = let e = push_weight w b.arguments i in omega arith
-
-  pub result_weight : (i : Item) → body_weight w (set_result b i) + any_weight w b.result ≡ body_weight w b + item_weight w i
-  unfolding body_weight
-  result_weight i = omega arith
-
-  pub local_weight : (i : Item) → body_weight w (add_local b i) ≡ body_weight w b + item_weight w i
-  unfolding body_weight
-  local_weight i = let e = push_weight w b.locals i in omega arith
-
-  pub named_weight : (i : Item) → body_weight w (add_named b i) ≡ body_weight w b + item_weight w i
-  unfolding body_weight
-  named_weight i = let e = push_weight w b.named i in omega arith
-
-  pub inner_weight : (i : Item) → body_weight w (add_inner b i) ≡ body_weight w b + item_weight w i
-  unfolding body_weight
-  inner_weight i = let e = push_weight w b.expressions i in omega arith
-
-  pub statement_weight : (i : Item) → body_weight w (add_statement b i) ≡ body_weight w b + item_weight w i
-  unfolding body_weight
-  statement_weight i = let e = push_weight w b.statements i in omega arith
-
-  pub closed_weight : (i : Item) → b.ending ≡ None → body_weight w (closed b i) ≡ body_weight w b + item_weight w i
-  unfolding body_weight
-  closed_weight i h = let e = ap (any_weight w) h in omega arith
+pub closed_weight : (w : Entry → ℕ) (b : Body) (i : Item) → b.ending ≡ None → body_weight w (closed b i) ≡ body_weight w b + item_weight w i
+unfolding body_weight
+closed_weight w b i h = let e = ap (any_weight w) h in omega arith
 
 pub opened_weight : (w : Entry → ℕ) (i : Item) → body_weight w (opened_by i) ≡ item_weight w i
 unfolding body_weight

@@ -18,7 +18,10 @@ use Rattle.owned.specs.Putting.{put_all, PutOrNone}
 use Rattle.owned.proofs.Growing.{put_enough}
 
 -- what a list holds once the loan of all its elements ends
-pub refilled_is : {T : Type 0} (v : Vec T Global) (lent last : List T) → lent ≡ v.items → length last ≡ length lent → take v.len (last ++ drop (length last) v.items) ≡ last
+abbrev pub Refilled : {T : Type 0} → Vec T Global → List T → Type 0
+Refilled v last = take v.len (last ++ drop (length last) v.items) ≡ last
+
+pub refilled_is : {T : Type 0} (v : Vec T Global) (lent last : List T) → lent ≡ v.items → length last ≡ length lent → Refilled v last
 refilled_is v lent last is kept = take_at last (drop (length last) v.items) v.len (kept ∙ ap length is ∙ sym v.ok.0)
 
 -- with room for the record, put answers as defined, and then keeps what is defined

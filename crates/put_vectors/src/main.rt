@@ -26,6 +26,7 @@ const HOMES: [Home; 4] = [
     Home::EntryPoint(0),
 ];
 
+// Listed here and not in `ir`: the order is that of the printed lookups, and nothing else goes through all tables.
 const TABLES: [Table; 9] = [
     Table::Types,
     Table::Constants,

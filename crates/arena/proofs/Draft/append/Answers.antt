@@ -19,7 +19,11 @@ advance-requires c =
     let w = waiting_kept c.requires.stands in
     let n : counted c.args.self.now.counts.lengths (table_in c.args.self.now.counts.opened c.manner-ways.result.table) ≡ c.next-number.result = sym (c.next-number.ensures ∙ ap (counted c.args.self.now.counts.lengths) c.table_in-table.ensures) in
     record {
-      sums = (omega arith, (omega arith, (omega arith, (omega arith, depth_within c.requires.stands))));
+      used = omega arith;
+      kept = omega arith;
+      waiting = omega arith;
+      number = omega arith;
+      depth = depth_within c.requires.stands;
       turns = λ t is. turns_now c.requires.stands c.args.record.now c.args.kind c.requires.sound t (ap (λ w. turn_of (top c.args.self.now.counts.brackets) w.motion) (sym c.manner-ways.ensures) ∙ is);
     }
 
