@@ -34,9 +34,11 @@ def definitions(text):
     found = {}
     for block in re.split(r"\n\s*\n", text):
         lines = [l for l in block.split("\n") if not re.match(r"\s*(--|use |pub use |pub mod )", l) and l.strip()]
-        if not lines:
+        # what stands first in a module is listed with the module's parameters, under its own name
+        first = next((l for l in lines if not re.match(r"\s*module _", l)), None)
+        if not first:
             continue
-        name = re.match(r"\s*(?:abbrev |unfoldable )?(?:pub )?(?:record )?(?:abbrev )?(?:pub )?([^\s:]+)", lines[0])
+        name = re.match(r"\s*(?:abbrev |unfoldable )?(?:pub )?(?:record )?(?:abbrev )?(?:pub )?([^\s:]+)", first)
         found[name[1]] = [l.rstrip() for l in lines]
     return found
 
@@ -51,7 +53,11 @@ def items(text):
     while i < len(lines):
         line = lines[i]
         impl = re.match(r"(?:pub )?(impl\b.*|trait .*) \{", line)
-        if impl:
+        inner = re.match(r"pub mod (\w+) \{", line)
+        shape = re.match(r"( *)pub (?:struct|enum|type|const) (\w+)", line)
+        if inner:
+            owner = inner[1] + "::"
+        elif impl:
             owner = re.sub(r"<'\w+>|<'_>", "", impl[1]).replace("impl ", "").strip() + "::"
         elif line == "}":
             owner = ""
@@ -66,15 +72,15 @@ def items(text):
             text_ = re.sub(r"\s*\{$", "", " ".join(header)).replace("( ", "(").replace(", )", ")")
             parts = re.split(r" (?=(?:requires|ensures)\b)", text_)
             found[owner + name] = parts
-        elif re.match(r"pub (struct|enum|type|const)", line):
-            name = re.search(r"(struct|enum|type|const) (\w+)", line)[2]
-            body = [line]
+        elif shape:
+            indent = shape[1]
+            body = [line[len(indent):]]
             if line.rstrip().endswith("{"):
-                while lines[i] != "}":
+                while lines[i] not in (indent + "}", indent + "};"):
                     i += 1
                     if not re.match(r"\s*(///|//)", lines[i]):
-                        body.append(lines[i])
-            found[name] = body
+                        body.append(lines[i][len(indent):])
+            found[owner + shape[2]] = body
         elif re.match(r"\s*ghost \w+", line) and " use " not in line:
             name = re.search(r"ghost (\w+)", line)[1]
             found[owner + "ghost " + name] = [line.strip()]

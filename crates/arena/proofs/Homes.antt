@@ -340,15 +340,9 @@ module _ (s : State) (r : Record) (k : Kind) (a : Admits s r k) where
   module_number handles.EntryPoints e = numbered table.EntryPoints e ∙ entries_number
 
   body_number : (t : Table) → among (body_table t) u ≡ true → number_of_next u s ≡ length (body_items t (Some s.body))
-  body_number handles.Types e = absurd cc
-  body_number handles.Constants e = absurd cc
-  body_number handles.Overrides e = absurd cc
-  body_number handles.GlobalVariables e = absurd cc
   body_number handles.LocalVariables e = numbered table.LocalVariables e
   body_number handles.Expressions e = numbered table.LocalExpressions e
-  body_number handles.Functions e = absurd cc
-  body_number handles.Filters e = absurd cc
-  body_number handles.EntryPoints e = absurd cc
+  body_number t e = absurd cc
 
   function_number : opens u ≡ Some body_kind.Function → number_of_next u s ≡ length s.built.functions + function_open s.opened
   function_number e = numbered table.Functions (sym (function_mine u) ∙ ap mine e)

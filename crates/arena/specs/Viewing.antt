@@ -1,6 +1,8 @@
 -- What a view of a draft answers.
 use Rattle.std.specs.Prelude.{◌≡◌, ℕ, ◌+◌, Bool, true, false, cond, ◌&&◌, List, [], ◌∷◌, map, Some, None, Option, ◌==◌}
 use Rattle.std.specs.List.{slice_get}
+use Rattle.std.specs.Iterator.Adapters.{enumerate_count, enumerate_source}
+use Rattle.std.specs.Slice.Iter.{iter_rest}
 use Rattle.ir.specs.declared.handle.Table.{Table}
 use Rattle.ir.specs.declared.handle.Table.TheVariants as handles
 use Rattle.rules.specs.Module.{Record, Item, Body}
@@ -11,6 +13,7 @@ use Rattle.draft.specs.declared.state.SlotTable.TheVariants as table
 use Rattle.draft.specs.State.{State, functions_now, entries_now}
 use Rattle.arena.specs.declared.Draft.{Draft}
 use Rattle.arena.specs.declared.slot.Slot.{Slot}
+use Rattle.arena.specs.declared.places.Places.{Places}
 use Rattle.arena.specs.declared.view.Home.{Home}
 use Rattle.arena.specs.declared.view.Home.TheVariants as home
 use Rattle.arena.specs.declared.view.View.{View}
@@ -130,3 +133,7 @@ enters (home.EntryPoint n) inside t k = entered n inside k (other (opens t))
 abbrev pub places_left : Home → Option SlotTable → Bool → ℕ → List Slot → List ℕ
 places_left h w inside p [] = []
 places_left h w inside p (s ∷ ss) = cond (enters h inside s.table s.number && among w s.table) (p ∷ places_left h w (enters h inside s.table s.number) (p + 1) ss) (places_left h w (enters h inside s.table s.number) (p + 1) ss)
+
+-- those that an iterator has still to give
+abbrev pub places_ahead : Places → List ℕ
+places_ahead s = places_left s.home s.table s.inside (enumerate_count s.slots) (iter_rest (enumerate_source s.slots))

@@ -40,7 +40,8 @@ impl<'a> View<'a> {
     {
         let waiting = self.waiting_block();
         let kept = self.kept_slots();
-        // Where the block of the next type begins: the records that it took stand before it.
+        // Where the block of the next type begins: the records that it took stand before it. Of the adapters
+        // only `scan` hands on such a sum: the loop's body would be its closure, which changes the sum.
         let mut from = 0;
         for (place, slot) in kept.iter().enumerate() {
             let end = self.start_of(place + 1);

@@ -20,6 +20,7 @@ use ir::kinds::Kind;
 
 impl Draft {
     /// A draft that has kept nothing, whatever the memory holds.
+    // Its facts, and those of `counts`, are of any memory: it is lent on each call, because C calls it so.
     pub fn new() -> Draft
         ensures stands { (bytes : List ℕ) (slots : List AnySlot) → Stands result bytes slots }
         ensures empty { (bytes : List ℕ) (slots : List AnySlot) → records result bytes slots ≡ [] }

@@ -35,6 +35,7 @@ impl Draft {
     ghost use Rattle.arena.specs.Viewing.{ViewOf};
 
     /// The draft and its memory, for reading.
+    // The memory is lent here too, because C calls it so; the view holds the fact that the draft stands in it.
     pub fn view<'a>(&'a self, bytes: &'a [u8], slots: &'a [Slot]) -> View<'a>
         requires { Stands self.now bytes.now slots.now }
         ensures { ViewOf result self.now bytes.now slots.now }
@@ -48,7 +49,7 @@ impl Draft {
 }
 
 impl<'a> View<'a> {
-    ghost use Rattle.arena.specs.Viewing.{viewed, items_in, places_in, places_left, slot_table};
+    ghost use Rattle.arena.specs.Viewing.{viewed, items_in, places_in, places_ahead, slot_table};
 
     /// How many records are kept.
     pub fn kept(self) -> usize
@@ -96,14 +97,13 @@ impl<'a> View<'a> {
     /// The places of the items of a table of this home, in the order of their numbers.
     // Home and table, here and below, are no struct: it would be made for each call only to be taken apart here.
     fn places(self, home: Home, table: Table) -> Places<'a>
-        ensures { places_left result.home result.table result.inside result.place result.slots.now ≡ places_in home table (state (viewed self.entry)) }
+        ensures { places_ahead result ≡ places_in home table (state (viewed self.entry)) }
     {
         Places {
             home,
             table: table_in(home, table),
             inside: false,
-            place: 0,
-            slots: self.kept_slots(),
+            slots: self.kept_slots().iter().enumerate(),
         }
     }
 

@@ -108,7 +108,8 @@ enum Progress {
     /// An option came whose number is next.
     Awaiting(Limit, Options),
     /// A word decided, whatever comes behind it.
-    // Carried through the fold: the words behind it are still read, and change nothing.
+    // Carried through the fold, which goes on and changes nothing more: by `try_fold`, `parse` is longer, and
+    // that an outcome stands wants a proof of its own.
     Settled(Result<Request, Misuse>),
 }
 

@@ -1,5 +1,5 @@
 -- The records that wait are the last of the kept ones, and without them the state is as it was.
-use Rattle.std.proofs.Common.{◌≡◌, ◌+◌, ◌-◌, ◌≤◌, ◌⊎◌, List, [], ◌∷◌, ◌++◌, length, take, sym, refl, ap, ◌∙◌, subst, inl, inr, ⊎_elim, append_assoc, append-nil, arith, length-append, None}
+use Rattle.std.proofs.Common.{◌≡◌, ◌+◌, ◌-◌, ◌≤◌, List, [], ◌∷◌, ◌++◌, length, take, sym, refl, ap, ◌∙◌, append_assoc, append-nil, arith, length-append, None}
 use Rattle.std.proofs.lemmas.List.{take_at}
 use Rattle.ir.specs.declared.kinds.Kind.{Kind}
 use Rattle.ir.specs.declared.kinds.Kind.TheVariants as kind
@@ -20,12 +20,6 @@ pub record Fronted (m : List Record) (s : State) : Type 0 where
   pub front : List Record
   pub parts : front ++ s.waiting ≡ m
   pub before : state front ≡ bare s front
-
--- members and operands wait, and nothing else
-joins_cases : (k : Kind) → ((manner_of k).joins ≡ None) ⊎ ((k ≡ kind.Member) ⊎ (k ≡ kind.Operand))
-joins_cases kind.Member = inr (inl refl)
-joins_cases kind.Operand = inr (inr refl)
-joins_cases k = inl refl
 
 module _ (m : List Record) (s : State) (r : Record) (f : Fronted m s) where
   is_next : (k : Kind) → Admits s r k → state (m ++ r ∷ []) ≡ stepped k r s
@@ -52,19 +46,13 @@ module _ (m : List Record) (s : State) (r : Record) (f : Fronted m s) where
   joined : f.front ++ (s.waiting ++ r ∷ []) ≡ m ++ r ∷ []
   joined = sym (append_assoc f.front s.waiting (r ∷ [])) ∙ ap (λ l. l ++ r ∷ []) f.parts
 
-  member_next : Admits s r kind.Member → Fronted (m ++ r ∷ []) (stepped kind.Member r s)
-  member_next a = record { is = is_next kind.Member a; used_is = used_next; kept_is = kept_next; front = f.front; parts = joined; before = f.before }
-
-  operand_next : Admits s r kind.Operand → Fronted (m ++ r ∷ []) (stepped kind.Operand r s)
-  operand_next a = record { is = is_next kind.Operand a; used_is = used_next; kept_is = kept_next; front = f.front; parts = joined; before = f.before }
+  waits_next : (k : Kind) → Admits s r k → (stepped k r s).waiting ≡ s.waiting ++ r ∷ [] → bare (stepped k r s) f.front ≡ bare s f.front → Fronted (m ++ r ∷ []) (stepped k r s)
+  waits_next k a ws same = record { is = is_next k a; used_is = used_next; kept_is = kept_next; front = f.front; parts = ap (λ l. f.front ++ l) ws ∙ joined; before = f.before ∙ sym same }
 
   fronted_next : (k : Kind) → Admits s r k → Fronted (m ++ r ∷ []) (stepped k r s)
-  fronted_next k a =
-      ⊎_elim (plain_next k a)
-      (⊎_elim
-      (λ e. subst (λ j. Fronted (m ++ r ∷ []) (stepped j r s)) (sym e) (member_next (subst (Admits s r) e a)))
-      (λ e. subst (λ j. Fronted (m ++ r ∷ []) (stepped j r s)) (sym e) (operand_next (subst (Admits s r) e a))))
-      (joins_cases k)
+  fronted_next kind.Member a = waits_next kind.Member a refl refl
+  fronted_next kind.Operand a = waits_next kind.Operand a refl refl
+  fronted_next k a = plain_next k a refl
 
 pub fronted_so : (m : List Record) → Accepted start m → Fronted m (state m)
 unfolding state

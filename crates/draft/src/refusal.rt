@@ -22,7 +22,7 @@ pub enum Refusal {
 
 impl Refusal {
     /// The number of the refusal.
-    // No `From<Refusal> for u8`: `u8::from(refusal)` does not say which number it gives.
+    // No `From` for `u8` beside it: contracts and callers name `number`, and a conversion would be a second name for it.
     pub fn number(self) -> u8
         ensures { result ≡ refusal_number self }
     {

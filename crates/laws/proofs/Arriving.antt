@@ -114,22 +114,15 @@ module _ (n : ℕ) (i : Item) (at : i.place ≡ n) where
   fine_opened = let l : i.place < n + 1 = omega arith in let s = sorted_none (n + 1) in assumption
 
 -- a body joins its table
-openers_push : (n k : ℕ) (bs : List Body) (b : Body) → n ≤ b.opener.place → b.opener.place < k → Sorted n (map (λ x. x.opener) bs) → Sorted k (map (λ x. x.opener) (bs ++ b ∷ []))
-openers_push n k bs b h l s = subst (Sorted k) (sym (map_push (λ x. x.opener) bs b)) (sorted_push n k (map (λ x. x.opener) bs) b.opener h l s)
-
 module _ (low n : ℕ) (m : Module) (b : Body) (at : low ≡ b.opener.place) (fine : FineBody n b) where
+  later : FineModule low n m → FineModule n n m
+  later f = let l = fine.opener in module_later low n n n (omega arith) (omega arith) m f
+
+  openers : (bs : List Body) → Sorted low (map (λ x. x.opener) bs) → Sorted n (map (λ x. x.opener) (bs ++ b ∷ []))
+  openers bs s = subst (Sorted n) (sym (map_push (λ x. x.opener) bs b)) (let l = fine.opener in sorted_push low n (map (λ x. x.opener) bs) b.opener (omega arith) l s)
+
   pub fine_function : FineModule low n m → FineModule n n (add_function m b)
-  fine_function f =
-      let l = fine.opener in
-      let g = module_later low n n n (omega arith) (omega arith) m f in
-      let o = openers_push low n m.functions b (omega arith) l f.functions in
-      let a = All-push (FineBody n) m.functions b f.in_functions fine in
-      assumption
+  fine_function f = let g = later f in let o = openers m.functions f.functions in let a = All-push (FineBody n) m.functions b f.in_functions fine in assumption
 
   pub fine_entry : FineModule low n m → FineModule n n (add_entry m b)
-  fine_entry f =
-      let l = fine.opener in
-      let g = module_later low n n n (omega arith) (omega arith) m f in
-      let o = openers_push low n m.entries b (omega arith) l f.entries in
-      let a = All-push (FineBody n) m.entries b f.in_entries fine in
-      assumption
+  fine_entry f = let g = later f in let o = openers m.entries f.entries in let a = All-push (FineBody n) m.entries b f.in_entries fine in assumption

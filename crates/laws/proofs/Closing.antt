@@ -12,40 +12,32 @@ use Rattle.laws.specs.Grammar.{is_simple, Block, Cases}
 use Rattle.laws.specs.Grammar.Block.{nothing, simple, nested, if, switch, loop}
 use Rattle.laws.specs.Grammar.Cases.{none, case}
 
--- a block, its ending, and what comes then
-pub record Ends (ending : ℕ) (Then : List ℕ → Type 0) (tail : List ℕ) : Type 0 where
+-- a block or cases, the ending, and what comes then
+pub record Ends (Inner : List ℕ → Type 0) (ending : ℕ) (Then : List ℕ → Type 0) (tail : List ℕ) : Type 0 where
   pub inner : List ℕ
   pub rest : List ℕ
   pub is : tail ≡ inner ++ (ending ∷ rest)
-  pub block : Block inner
-  pub then : Then rest
-
--- cases, EndSwitch, and what comes then
-pub record EndsCases (Then : List ℕ → Type 0) (tail : List ℕ) : Type 0 where
-  pub inner : List ℕ
-  pub rest : List ℕ
-  pub is : tail ≡ inner ++ (154 ∷ rest)
-  pub cases : Cases inner
+  pub block : Inner inner
   pub then : Then rest
 
 -- the tail ends each open bracket
 abbrev pub Closing : List Bracket → List ℕ → Type 0
 Closing [] tail = Block tail
-Closing (bracket.Block ∷ bs) tail = Ends 151 (Closing bs) tail
-Closing (bracket.Accept ∷ bs) tail = Ends 151 (Ends 151 (Closing bs)) tail
-Closing (bracket.Reject ∷ bs) tail = Ends 151 (Closing bs) tail
-Closing (bracket.Switch ∷ bs) tail = EndsCases (Closing bs) tail
-Closing (bracket.Case ∷ bs) tail = Ends 151 (Closing bs) tail
-Closing (bracket.Body ∷ bs) tail = Ends 151 (Ends 152 (Closing bs)) tail
-Closing (bracket.Continuing ∷ bs) tail = Ends 152 (Closing bs) tail
+Closing (bracket.Block ∷ bs) tail = Ends Block 151 (Closing bs) tail
+Closing (bracket.Accept ∷ bs) tail = Ends Block 151 (Ends Block 151 (Closing bs)) tail
+Closing (bracket.Reject ∷ bs) tail = Ends Block 151 (Closing bs) tail
+Closing (bracket.Switch ∷ bs) tail = Ends Cases 154 (Closing bs) tail
+Closing (bracket.Case ∷ bs) tail = Ends Block 151 (Closing bs) tail
+Closing (bracket.Body ∷ bs) tail = Ends Block 151 (Ends Block 152 (Closing bs)) tail
+Closing (bracket.Continuing ∷ bs) tail = Ends Block 152 (Closing bs) tail
 
--- no block before the ending
-ends_here : (ending : ℕ) (Then : List ℕ → Type 0) (tail : List ℕ) → Then tail → Ends ending Then (ending ∷ tail)
-ends_here ending Then tail t = record { inner = []; rest = tail; is = refl; block = nothing; then = t }
+-- nothing before the ending
+ends_here : (Inner : List ℕ → Type 0) → Inner [] → (ending : ℕ) (Then : List ℕ → Type 0) (tail : List ℕ) → Then tail → Ends Inner ending Then (ending ∷ tail)
+ends_here Inner b ending Then tail t = record { inner = []; rest = tail; is = refl; block = b; then = t }
 
 -- a statement may go before what closes the brackets, unless directly in a Switch
 module _ (st : List ℕ) (grows : (rest : List ℕ) → Block rest → Block (st ++ rest)) where
-  ends_grown : (ending : ℕ) (Then : List ℕ → Type 0) (tail : List ℕ) → Ends ending Then tail → Ends ending Then (st ++ tail)
+  ends_grown : (ending : ℕ) (Then : List ℕ → Type 0) (tail : List ℕ) → Ends Block ending Then tail → Ends Block ending Then (st ++ tail)
   ends_grown ending Then tail c = record {
     inner = st ++ c.inner;
     rest = c.rest;
@@ -57,11 +49,11 @@ module _ (st : List ℕ) (grows : (rest : List ℕ) → Block rest → Block (st
   grown : (bs : List Bracket) (tail : List ℕ) → is_some (turn_of (innermost bs) motion.Statement) ≡ true → Closing bs tail → Closing bs (st ++ tail)
   grown [] tail h c = grows tail c
   grown (bracket.Block ∷ bs) tail h c = ends_grown 151 (Closing bs) tail c
-  grown (bracket.Accept ∷ bs) tail h c = ends_grown 151 (Ends 151 (Closing bs)) tail c
+  grown (bracket.Accept ∷ bs) tail h c = ends_grown 151 (Ends Block 151 (Closing bs)) tail c
   grown (bracket.Reject ∷ bs) tail h c = ends_grown 151 (Closing bs) tail c
   grown (bracket.Switch ∷ bs) tail h c = absurd cc
   grown (bracket.Case ∷ bs) tail h c = ends_grown 151 (Closing bs) tail c
-  grown (bracket.Body ∷ bs) tail h c = ends_grown 151 (Ends 152 (Closing bs)) tail c
+  grown (bracket.Body ∷ bs) tail h c = ends_grown 151 (Ends Block 152 (Closing bs)) tail c
   grown (bracket.Continuing ∷ bs) tail h c = ends_grown 152 (Closing bs) tail c
 
 -- a bracket is pushed wherever a statement may stand
@@ -90,51 +82,32 @@ simple_turn k e bs tail h c =
 
 -- a whole statement, of which the record is the opener
 module _ (bs : List Bracket) (tail : List ℕ) where
-  block_turn : is_some (turn_of (innermost bs) (motion.Enter bracket.Block)) ≡ true → Closing (turned (turn_of (innermost bs) (motion.Enter bracket.Block)) bs) tail → Closing bs (129 ∷ tail)
-  block_turn h x =
-      let p = pushed bs bracket.Block h in
-      let c : Ends 151 (Closing bs) tail = subst (λ l. Closing l tail) p.1 x in
-      subst (λ l. Closing bs (129 ∷ l)) (one_part c.inner 151 c.rest ∙ sym c.is)
-      (grown (129 ∷ (c.inner ++ (151 ∷ [])))
-      (λ rest b. subst (λ l. Block (129 ∷ l)) (sym (one_part c.inner 151 rest)) (nested c.inner rest c.block b))
+  one_turn : (Inner : List ℕ → Type 0) (k n : ℕ) (b : Bracket) → ((xs rest : List ℕ) → Inner xs → Block rest → Block (k ∷ (xs ++ (n ∷ rest)))) → (Closing (b ∷ bs) tail → Ends Inner n (Closing bs) tail) → is_some (turn_of (innermost bs) (motion.Enter b)) ≡ true → Closing (turned (turn_of (innermost bs) (motion.Enter b)) bs) tail → Closing bs (k ∷ tail)
+  one_turn Inner k n b make ends h x =
+      let p = pushed bs b h in
+      let c : Ends Inner n (Closing bs) tail = ends (subst (λ l. Closing l tail) p.1 x) in
+      subst (λ l. Closing bs (k ∷ l)) (one_part c.inner n c.rest ∙ sym c.is)
+      (grown (k ∷ (c.inner ++ (n ∷ [])))
+      (λ rest b. subst (λ l. Block (k ∷ l)) (sym (one_part c.inner n rest)) (make c.inner rest c.block b))
       bs c.rest p.0 c.then)
 
-  if_turn : is_some (turn_of (innermost bs) (motion.Enter bracket.Accept)) ≡ true → Closing (turned (turn_of (innermost bs) (motion.Enter bracket.Accept)) bs) tail → Closing bs (130 ∷ tail)
-  if_turn h x =
-      let p = pushed bs bracket.Accept h in
-      let c : Ends 151 (Ends 151 (Closing bs)) tail = subst (λ l. Closing l tail) p.1 x in
-      let d : Ends 151 (Closing bs) c.rest = c.then in
-      subst (λ l. Closing bs (130 ∷ l)) (two_parts c.inner 151 d.inner 151 d.rest ∙ ap (λ l. c.inner ++ (151 ∷ l)) (sym d.is) ∙ sym c.is)
-      (grown (130 ∷ (c.inner ++ (151 ∷ (d.inner ++ (151 ∷ [])))))
-      (λ rest b. subst (λ l. Block (130 ∷ l)) (sym (two_parts c.inner 151 d.inner 151 rest)) (if c.inner d.inner rest c.block d.block b))
+  two_turn : (k n : ℕ) (b : Bracket) → ((xs ys rest : List ℕ) → Block xs → Block ys → Block rest → Block (k ∷ (xs ++ (151 ∷ (ys ++ (n ∷ rest)))))) → (Closing (b ∷ bs) tail → Ends Block 151 (Ends Block n (Closing bs)) tail) → is_some (turn_of (innermost bs) (motion.Enter b)) ≡ true → Closing (turned (turn_of (innermost bs) (motion.Enter b)) bs) tail → Closing bs (k ∷ tail)
+  two_turn k n b make ends h x =
+      let p = pushed bs b h in
+      let c : Ends Block 151 (Ends Block n (Closing bs)) tail = ends (subst (λ l. Closing l tail) p.1 x) in
+      let d : Ends Block n (Closing bs) c.rest = c.then in
+      subst (λ l. Closing bs (k ∷ l)) (two_parts c.inner 151 d.inner n d.rest ∙ ap (λ l. c.inner ++ (151 ∷ l)) (sym d.is) ∙ sym c.is)
+      (grown (k ∷ (c.inner ++ (151 ∷ (d.inner ++ (n ∷ [])))))
+      (λ rest b. subst (λ l. Block (k ∷ l)) (sym (two_parts c.inner 151 d.inner n rest)) (make c.inner d.inner rest c.block d.block b))
       bs d.rest p.0 d.then)
-
-  loop_turn : is_some (turn_of (innermost bs) (motion.Enter bracket.Body)) ≡ true → Closing (turned (turn_of (innermost bs) (motion.Enter bracket.Body)) bs) tail → Closing bs (132 ∷ tail)
-  loop_turn h x =
-      let p = pushed bs bracket.Body h in
-      let c : Ends 151 (Ends 152 (Closing bs)) tail = subst (λ l. Closing l tail) p.1 x in
-      let d : Ends 152 (Closing bs) c.rest = c.then in
-      subst (λ l. Closing bs (132 ∷ l)) (two_parts c.inner 151 d.inner 152 d.rest ∙ ap (λ l. c.inner ++ (151 ∷ l)) (sym d.is) ∙ sym c.is)
-      (grown (132 ∷ (c.inner ++ (151 ∷ (d.inner ++ (152 ∷ [])))))
-      (λ rest b. subst (λ l. Block (132 ∷ l)) (sym (two_parts c.inner 151 d.inner 152 rest)) (loop c.inner d.inner rest c.block d.block b))
-      bs d.rest p.0 d.then)
-
-  switch_turn : is_some (turn_of (innermost bs) (motion.Enter bracket.Switch)) ≡ true → Closing (turned (turn_of (innermost bs) (motion.Enter bracket.Switch)) bs) tail → Closing bs (131 ∷ tail)
-  switch_turn h x =
-      let p = pushed bs bracket.Switch h in
-      let c : EndsCases (Closing bs) tail = subst (λ l. Closing l tail) p.1 x in
-      subst (λ l. Closing bs (131 ∷ l)) (one_part c.inner 154 c.rest ∙ sym c.is)
-      (grown (131 ∷ (c.inner ++ (154 ∷ [])))
-      (λ rest b. subst (λ l. Block (131 ∷ l)) (sym (one_part c.inner 154 rest)) (switch c.inner rest c.cases b))
-      bs c.rest p.0 c.then)
 
 -- each statement, before what closes the brackets after it
 pub statement_turn : (c : Statement) (bs : List Bracket) (tail : List ℕ) → is_some (turn_of (innermost bs) (statement_motion c)) ≡ true → Closing (turned (turn_of (innermost bs) (statement_motion c)) bs) tail → Closing bs ((128 + statement_case c) ∷ tail)
 statement_turn statement.Emit = simple_turn 128 refl
-statement_turn statement.Block = block_turn
-statement_turn statement.If = if_turn
-statement_turn statement.Switch = switch_turn
-statement_turn statement.Loop = loop_turn
+statement_turn statement.Block = λ bs tail. one_turn bs tail Block 129 151 bracket.Block nested (λ c. c)
+statement_turn statement.If = λ bs tail. two_turn bs tail 130 151 bracket.Accept if (λ c. c)
+statement_turn statement.Switch = λ bs tail. one_turn bs tail Cases 131 154 bracket.Switch switch (λ c. c)
+statement_turn statement.Loop = λ bs tail. two_turn bs tail 132 152 bracket.Body loop (λ c. c)
 statement_turn statement.Break = simple_turn 133 refl
 statement_turn statement.Continue = simple_turn 134 refl
 statement_turn statement.Return = simple_turn 135 refl
@@ -156,32 +129,32 @@ statement_turn statement.CooperativeStore = simple_turn 150 refl
 
 -- the end of a block
 pub end_turn : (bs : List Bracket) (tail : List ℕ) → is_some (turn_of (innermost bs) motion.End) ≡ true → Closing (turned (turn_of (innermost bs) motion.End) bs) tail → Closing bs (151 ∷ tail)
-end_turn (bracket.Block ∷ bs) tail h c = ends_here 151 (Closing bs) tail c
-end_turn (bracket.Accept ∷ bs) tail h c = ends_here 151 (Ends 151 (Closing bs)) tail c
-end_turn (bracket.Reject ∷ bs) tail h c = ends_here 151 (Closing bs) tail c
-end_turn (bracket.Case ∷ bs) tail h c = ends_here 151 (Closing bs) tail c
-end_turn (bracket.Body ∷ bs) tail h c = ends_here 151 (Ends 152 (Closing bs)) tail c
+end_turn (bracket.Block ∷ bs) tail h c = ends_here Block nothing 151 (Closing bs) tail c
+end_turn (bracket.Accept ∷ bs) tail h c = ends_here Block nothing 151 (Ends Block 151 (Closing bs)) tail c
+end_turn (bracket.Reject ∷ bs) tail h c = ends_here Block nothing 151 (Closing bs) tail c
+end_turn (bracket.Case ∷ bs) tail h c = ends_here Block nothing 151 (Closing bs) tail c
+end_turn (bracket.Body ∷ bs) tail h c = ends_here Block nothing 151 (Ends Block 152 (Closing bs)) tail c
 end_turn bs tail h c = absurd cc
 
 -- the end of a loop's second half
 pub loop_end_turn : (bs : List Bracket) (tail : List ℕ) → is_some (turn_of (innermost bs) motion.EndLoop) ≡ true → Closing (turned (turn_of (innermost bs) motion.EndLoop) bs) tail → Closing bs (152 ∷ tail)
-loop_end_turn (bracket.Continuing ∷ bs) tail h c = ends_here 152 (Closing bs) tail c
+loop_end_turn (bracket.Continuing ∷ bs) tail h c = ends_here Block nothing 152 (Closing bs) tail c
 loop_end_turn bs tail h c = absurd cc
 
 -- the end of the cases
 pub switch_end_turn : (bs : List Bracket) (tail : List ℕ) → is_some (turn_of (innermost bs) motion.EndSwitch) ≡ true → Closing (turned (turn_of (innermost bs) motion.EndSwitch) bs) tail → Closing bs (154 ∷ tail)
-switch_end_turn (bracket.Switch ∷ bs) tail h c = record { inner = []; rest = tail; is = refl; cases = none; then = c }
+switch_end_turn (bracket.Switch ∷ bs) tail h c = ends_here Cases none 154 (Closing bs) tail c
 switch_end_turn bs tail h c = absurd cc
 
 -- one case more
-case_more : (Then : List ℕ → Type 0) (tail : List ℕ) → Ends 151 (EndsCases Then) tail → EndsCases Then (153 ∷ tail)
+case_more : (Then : List ℕ → Type 0) (tail : List ℕ) → Ends Block 151 (Ends Cases 154 Then) tail → Ends Cases 154 Then (153 ∷ tail)
 case_more Then tail c =
-    let d : EndsCases Then c.rest = c.then in
+    let d : Ends Cases 154 Then c.rest = c.then in
     record {
       inner = 153 ∷ (c.inner ++ (151 ∷ d.inner));
       rest = d.rest;
       is = ap (λ l. 153 ∷ l) (c.is ∙ ap (λ l. c.inner ++ (151 ∷ l)) d.is ∙ sym (append_assoc c.inner (151 ∷ d.inner) (154 ∷ d.rest)));
-      cases = case c.inner d.inner c.block d.cases;
+      block = case c.inner d.inner c.block d.block;
       then = d.then;
     }
 

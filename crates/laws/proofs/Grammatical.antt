@@ -91,55 +91,35 @@ module _ (s : State) (r : Record) (w : Running s) where
       let more : kinds (s.body.statements ++ item_of s r ∷ []) ≡ ks ++ number_of k ∷ [] = kinds_push s.body.statements (item_of s r) ∙ ap (λ l. ks ++ l) (byte_is r k e) in
       subst Block (sym (ap (λ l. l ++ tail) more ∙ append_assoc ks (number_of k ∷ []) tail)) (w.so_far (number_of k ∷ tail) c)
 
+  says : (k : Kind) (t : State) → t.built.functions ≡ s.built.functions → t.built.entries ≡ s.built.entries → t.body.statements ≡ s.body.statements ++ item_of s r ∷ [] → judged r ≡ Ok k → ((tail : List ℕ) → Closing t.brackets tail → Closing s.brackets (number_of k ∷ tail)) → (t.opened ≡ None → t.brackets ≡ []) → Running t
+  says k t f e x j closes out = record {
+    functions = subst (AllByRecursion Ended) (sym f) w.functions;
+    entries = subst (AllByRecursion Ended) (sym e) w.entries;
+    so_far = λ tail c. subst (λ l. Block (kinds l ++ tail)) (sym x) (said k j tail (closes tail c));
+    outside = out;
+  }
+
+  -- behind it the open body has no statement, and no bracket is open
+  begins : (t : State) → AllByRecursion Ended t.built.functions → AllByRecursion Ended t.built.entries → t.body.statements ≡ [] → t.brackets ≡ [] → Running t
+  begins t f e x b = record { functions = f; entries = e; so_far = λ tail c. subst (λ l. Block (kinds l ++ tail)) (sym x) (subst (λ l. Closing l tail) b c); outside = λ o. b }
+
   -- each record keeps it
   next : (k : Kind) → Admits s r k → Running (stepped k r s)
-  next kind.Function a =
-      let none = w.outside (outside_only s.opened a.on_its_side) in
-      record { functions = w.functions; entries = w.entries; so_far = λ tail c. subst (λ l. Closing l tail) none c; outside = λ o. none }
-  next kind.EntryPoint a =
-      let none = w.outside (outside_only s.opened a.on_its_side) in
-      record { functions = w.functions; entries = w.entries; so_far = λ tail c. subst (λ l. Closing l tail) none c; outside = λ o. none }
+  next kind.Function a = begins (stepped kind.Function r s) w.functions w.entries refl (w.outside (outside_only s.opened a.on_its_side))
+  next kind.EntryPoint a = begins (stepped kind.EntryPoint r s) w.functions w.entries refl (w.outside (outside_only s.opened a.on_its_side))
   next kind.EndFunction a =
       let none = no_bracket s.brackets a.turns in
-      let gone : turned (turn_of (innermost s.brackets) motion.Finish) s.brackets ≡ [] = ap (λ l. turned (turn_of (innermost l) motion.Finish) l) none in
       let block = whole s.brackets (kinds s.body.statements) none w.so_far in
-      record {
-        functions = functions_then s.body (item_of s r) s.built block s.opened w.functions;
-        entries = entries_then s.body (item_of s r) s.built block s.opened w.entries;
-        so_far = λ tail c. subst (λ l. Closing l tail) gone c;
-        outside = λ o. gone;
-      }
+      begins (stepped kind.EndFunction r s)
+      (functions_then s.body (item_of s r) s.built block s.opened w.functions)
+      (entries_then s.body (item_of s r) s.built block s.opened w.entries)
+      refl (ap (λ l. turned (turn_of (innermost l) motion.Finish) l) none)
   next (kind.Expression e) a = stays (stepped (kind.Expression e) r s) (functions_still (item_of s r) s.opened e s.body s.built) (entries_still (item_of s r) s.opened e s.body s.built) (statements_still (item_of s r) s.opened e s.body) refl refl
-  next (kind.Statement c) a = record {
-    functions = w.functions;
-    entries = w.entries;
-    so_far = λ tail x. said (kind.Statement c) a.kind_is tail (statement_turn c s.brackets tail a.turns x);
-    outside = λ o. not_outside s.opened _ a.on_its_side (sym (statement_stays c s.opened) ∙ o);
-  }
-  next kind.End a = record {
-    functions = w.functions;
-    entries = w.entries;
-    so_far = λ tail x. said kind.End a.kind_is tail (end_turn s.brackets tail a.turns x);
-    outside = not_outside s.opened _ a.on_its_side;
-  }
-  next kind.EndLoop a = record {
-    functions = w.functions;
-    entries = w.entries;
-    so_far = λ tail x. said kind.EndLoop a.kind_is tail (loop_end_turn s.brackets tail a.turns x);
-    outside = not_outside s.opened _ a.on_its_side;
-  }
-  next kind.Case a = record {
-    functions = w.functions;
-    entries = w.entries;
-    so_far = λ tail x. said kind.Case a.kind_is tail (case_turn s.brackets tail a.turns x);
-    outside = not_outside s.opened _ a.on_its_side;
-  }
-  next kind.EndSwitch a = record {
-    functions = w.functions;
-    entries = w.entries;
-    so_far = λ tail x. said kind.EndSwitch a.kind_is tail (switch_end_turn s.brackets tail a.turns x);
-    outside = not_outside s.opened _ a.on_its_side;
-  }
+  next (kind.Statement c) a = says (kind.Statement c) (stepped (kind.Statement c) r s) refl refl refl a.kind_is (λ tail x. statement_turn c s.brackets tail a.turns x) (λ o. not_outside s.opened _ a.on_its_side (sym (statement_stays c s.opened) ∙ o))
+  next kind.End a = says kind.End (stepped kind.End r s) refl refl refl a.kind_is (λ tail x. end_turn s.brackets tail a.turns x) (not_outside s.opened _ a.on_its_side)
+  next kind.EndLoop a = says kind.EndLoop (stepped kind.EndLoop r s) refl refl refl a.kind_is (λ tail x. loop_end_turn s.brackets tail a.turns x) (not_outside s.opened _ a.on_its_side)
+  next kind.Case a = says kind.Case (stepped kind.Case r s) refl refl refl a.kind_is (λ tail x. case_turn s.brackets tail a.turns x) (not_outside s.opened _ a.on_its_side)
+  next kind.EndSwitch a = says kind.EndSwitch (stepped kind.EndSwitch r s) refl refl refl a.kind_is (λ tail x. switch_end_turn s.brackets tail a.turns x) (not_outside s.opened _ a.on_its_side)
   next k a = stays (stepped k r s) refl refl refl refl refl
 
 running : (m : List Record) → Accepted start m → Running (state m)

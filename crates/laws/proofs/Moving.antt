@@ -16,7 +16,7 @@ use Rattle.draft.specs.Manner.{manner_of}
 use Rattle.rules.specs.Module.{Item, Body, Module, nobody, opened_by, add_type, add_override, add_constant, add_global, set_special, add_predeclared, add_filter, set_leaf, add_expression, add_function, add_entry, add_argument, set_result, add_local, add_named, add_inner, add_statement, closed}
 use Rattle.draft.specs.State.{on_side, open_after, module_after, body_after}
 use Rattle.laws.specs.Decoded.{Entry, entries_of_any, Later, Starts}
-use Rattle.laws.proofs.Weighing.{item_weight, body_weight, open_weight, module_weight, standing_weight, any_weighs, list_weight, push_weight, bodies_push_weight, closed_weight, opened_weight}
+use Rattle.laws.proofs.Weighing.{item_weight, body_weight, bodies_weight, open_weight, module_weight, standing_weight, any_weighs, list_weight, push_weight, bodies_push_weight, closed_weight, opened_weight}
 use Rattle.laws.proofs.Arriving.{Sorted, Marked, FineBody, FineModule, body_later, module_later, marked, push, fine_closed, fine_opened, fine_function, fine_entry}
 
 -- the bodies that ended were opened before the open one, else before n
@@ -164,19 +164,10 @@ module _ (n : ℕ) (i : Item) (at : i.place ≡ n) (m : Module) (b : Body) (good
   none_over : (o : Option BodyKind) (b' : Body) (e : Entry) → ReplacedAt m None b e → ReplacedAt m o b' e
   none_over o b' e = ⊎_elim inl (⊎_elim (λ x. inr (inl x)) (λ x. inr (inr (x.0, ⊎_elim inl (⊎_elim (λ y. inr (inl y)) (λ y. absurd (false≢true y.0))) x.1))))
 
-  function_opens : Moved n None i m None b m (Some body_kind.Function) (opened_by i)
-  function_opens = record {
+  opens : (k : BodyKind) → Moved n None i m None b m (Some k) (opened_by i)
+  opens k = record {
     good = record { built = opens_low; body = λ h. fine_opened n i at; unended = refl };
-    carried = none_over (Some body_kind.Function) (opened_by i);
-    gone = [];
-    replaced = tt;
-    once = λ w. let z = opened_weight w i in omega arith;
-  }
-
-  entry_opens : Moved n None i m None b m (Some body_kind.EntryPoint) (opened_by i)
-  entry_opens = record {
-    good = record { built = opens_low; body = λ h. fine_opened n i at; unended = refl };
-    carried = none_over (Some body_kind.EntryPoint) (opened_by i);
+    carried = none_over (Some k) (opened_by i);
     gone = [];
     replaced = tt;
     once = λ w. let z = opened_weight w i in omega arith;
@@ -190,31 +181,21 @@ module _ (n : ℕ) (i : Item) (at : i.place ≡ n) (m : Module) (b : Body) where
   over_more : (bs : List Body) (p : ℕ) → OverIn bs p → OverIn (bs ++ closed b i ∷ []) p
   over_more bs p y = (y.0, has_append_left bs (closed b i ∷ []) y.0 y.1, y.2, y.3)
 
-  function_ends : Good m (Some body_kind.Function) b n → Moved n None i m (Some body_kind.Function) b (add_function m (closed b i)) None nobody
+  ends : (k : BodyKind) (fs es : List Body) → (FineBody (n + 1) (closed b i) → FineModule b.opener.place (n + 1) m → FineModule (n + 1) (n + 1) (record m { functions = fs; entries = es })) → ((p : ℕ) → Overtaken m (Some k) b p → OverIn fs p ⊎ OverIn es p) → ((w : Entry → ℕ) → bodies_weight w fs + bodies_weight w es ≡ bodies_weight w m.functions + bodies_weight w m.entries + body_weight w (closed b i)) → Good m (Some k) b n → Moved n None i m (Some k) b (record m { functions = fs; entries = es }) None nobody
   unfolding module_weight
-  function_ends good =
-      let f = fine_closed n i at b i (good.body refl) in
-      let g = module_later b.opener.place b.opener.place n (n + 1) (omega arith) (omega arith) m good.built in
-      record {
-        good = record { built = fine_function b.opener.place (n + 1) m (closed b i) refl f g; body = λ h. absurd cc; unended = refl };
-        carried = λ e. ⊎_elim inl (⊎_elim (λ x. inr (inl x)) (λ x. inr (inr (x.0, ⊎_elim (λ y. inl (over_more m.functions e.0 y)) (⊎_elim (λ y. inr (inl y)) (λ y. inl (over_closed m.functions (Some body_kind.Function) e.0 y))) x.1))));
-        gone = [];
-        replaced = tt;
-        once = λ w. let z = bodies_push_weight w m.functions (closed b i) in let y = closed_weight w b i good.unended in omega arith;
-      }
+  ends k fs es fine over weighs good = record {
+    good = record { built = fine (fine_closed n i at b i (good.body refl)) (module_later b.opener.place b.opener.place n (n + 1) (omega arith) (omega arith) m good.built); body = λ h. absurd cc; unended = refl };
+    carried = λ e. ⊎_elim inl (⊎_elim (λ x. inr (inl x)) (λ x. inr (inr (x.0, ⊎_elim inl (λ y. inr (inl y)) (over e.0 x.1)))));
+    gone = [];
+    replaced = tt;
+    once = λ w. let z = weighs w in let y = closed_weight w b i good.unended in omega arith;
+  }
+
+  function_ends : Good m (Some body_kind.Function) b n → Moved n None i m (Some body_kind.Function) b (add_function m (closed b i)) None nobody
+  function_ends = ends body_kind.Function (m.functions ++ closed b i ∷ []) m.entries (fine_function b.opener.place (n + 1) m (closed b i) refl) (λ p. ⊎_elim (λ y. inl (over_more m.functions p y)) (⊎_elim inr (λ y. inl (over_closed m.functions (Some body_kind.Function) p y)))) (λ w. let z = bodies_push_weight w m.functions (closed b i) in omega arith)
 
   entry_ends : Good m (Some body_kind.EntryPoint) b n → Moved n None i m (Some body_kind.EntryPoint) b (add_entry m (closed b i)) None nobody
-  unfolding module_weight
-  entry_ends good =
-      let f = fine_closed n i at b i (good.body refl) in
-      let g = module_later b.opener.place b.opener.place n (n + 1) (omega arith) (omega arith) m good.built in
-      record {
-        good = record { built = fine_entry b.opener.place (n + 1) m (closed b i) refl f g; body = λ h. absurd cc; unended = refl };
-        carried = λ e. ⊎_elim inl (⊎_elim (λ x. inr (inl x)) (λ x. inr (inr (x.0, ⊎_elim inl (⊎_elim (λ y. inr (inl (over_more m.entries e.0 y))) (λ y. inr (inl (over_closed m.entries (Some body_kind.EntryPoint) e.0 y)))) x.1))));
-        gone = [];
-        replaced = tt;
-        once = λ w. let z = bodies_push_weight w m.entries (closed b i) in let y = closed_weight w b i good.unended in omega arith;
-      }
+  entry_ends = ends body_kind.EntryPoint m.functions (m.entries ++ closed b i ∷ []) (fine_entry b.opener.place (n + 1) m (closed b i) refl) (λ p. ⊎_elim inl (λ x. inr (⊎_elim (over_more m.entries p) (over_closed m.entries (Some body_kind.EntryPoint) p) x))) (λ w. let z = bodies_push_weight w m.entries (closed b i) in omega arith)
 
 module _ (n : ℕ) (i : Item) (at : i.place ≡ n) (m : Module) (b : Body) where
   abbrev After : Kind → Option BodyKind → Type 0
@@ -231,9 +212,9 @@ module _ (n : ℕ) (i : Item) (at : i.place ≡ n) (m : Module) (b : Body) where
   moved_at kind.Predeclared o g h s t = into_module n i at m o b g m.predeclared g.built.predeclared (add_predeclared m i) (λ x y. assumption) (λ e x. x) (λ w. omega arith)
   moved_at kind.Filter o g h s t = into_module n i at m o b g m.filters g.built.filters (add_filter m i) (λ x y. assumption) (λ e x. x) (λ w. omega arith)
   moved_at kind.Leaf o g h s t = leaf_moved n i at m o b g s (t refl refl)
-  moved_at kind.Function None g h s t = function_opens n i at m b g
+  moved_at kind.Function None g h s t = opens n i at m b g body_kind.Function
   moved_at kind.Function (Some k) g h s t = absurd cc
-  moved_at kind.EntryPoint None g h s t = entry_opens n i at m b g
+  moved_at kind.EntryPoint None g h s t = opens n i at m b g body_kind.EntryPoint
   moved_at kind.EntryPoint (Some k) g h s t = absurd cc
   moved_at kind.FunctionArgument o g h s t = into_body n i at m o b g h b.arguments (g.body h).arguments (add_argument b i) refl refl (λ x y. assumption) (λ e x. x) (λ w. omega arith)
   moved_at kind.FunctionResult o g h s t = result_moved n i at m o b g h s (t refl refl)

@@ -124,29 +124,28 @@ module _ (w : Entry → ℕ) where
       let x12 = open_weighs s.opened s.built s.body in
       simp sum_by-append (omega arith)
 
+  -- places go on where they stopped, so what is added weighs by its place
+  push_at : (n k : ℕ) (rs : List Record) (r : Record) → n + length rs ≡ k → sum_by w (enumerate_from n (rs ++ r ∷ [])) ≡ sum_by w (enumerate_from n rs) + w (k, r)
+  push_at n k rs r e = ap (sum_by w) (numbered_push n rs r) ∙ sum_by_push w (enumerate_from n rs) (n + length rs, r) ∙ ap (λ j. sum_by w (enumerate_from n rs) + w (j, r)) e
+
   -- an item weighs what waited and its own record
   pub item_weighs : (n : ℕ) (ws : List Record) (r : Record) → length ws ≤ n → item_weight (record { place = n; bytes = r; taken = ws }) ≡ waiting_weight n ws + w (n, r)
   unfolding item_weight waiting_weight
-  item_weighs n ws r h =
-      let e : n - length ws + length ws ≡ n = omega arith in
-      ap (sum_by w) (numbered_push (n - length ws) ws r) ∙ sum_by_push w (enumerate_from (n - length ws) ws) (n - length ws + length ws, r) ∙ ap (λ k. sum_by w (enumerate_from (n - length ws) ws) + w (k, r)) e
+  item_weighs n ws r h = push_at (n - length ws) n ws r (omega arith)
 
   pub waiting_push : (n : ℕ) (ws : List Record) (r : Record) → length ws ≤ n → waiting_weight (n + 1) (ws ++ r ∷ []) ≡ waiting_weight n ws + w (n, r)
   unfolding waiting_weight
   waiting_push n ws r h =
       let l = length-append ws (r ∷ []) in
       let d : n + 1 - length (ws ++ r ∷ []) ≡ n - length ws = omega arith in
-      let e : n - length ws + length ws ≡ n = omega arith in
-      ap (λ k. sum_by w (enumerate_from k (ws ++ r ∷ []))) d ∙ ap (sum_by w) (numbered_push (n - length ws) ws r) ∙ sum_by_push w (enumerate_from (n - length ws) ws) (n - length ws + length ws, r) ∙ ap (λ k. sum_by w (enumerate_from (n - length ws) ws) + w (k, r)) e
+      ap (λ k. sum_by w (enumerate_from k (ws ++ r ∷ []))) d ∙ push_at (n - length ws) n ws r (omega arith)
 
   pub none_waiting : (n : ℕ) → waiting_weight n [] ≡ 0
   unfolding waiting_weight
   none_waiting n = refl
 
   pub all_push_weight : (m : List Record) (r : Record) → sum_by w (enumerate_from 0 (m ++ r ∷ [])) ≡ sum_by w (enumerate_from 0 m) + w (length m, r)
-  all_push_weight m r =
-      let e : 0 + length m ≡ length m = omega arith in
-      ap (sum_by w) (numbered_push 0 m r) ∙ sum_by_push w (enumerate_from 0 m) (0 + length m, r) ∙ ap (λ k. sum_by w (enumerate_from 0 m) + w (k, r)) e
+  all_push_weight m r = push_at 0 (length m) m r (omega arith)
 
 pub closed_weight : (w : Entry → ℕ) (b : Body) (i : Item) → b.ending ≡ None → body_weight w (closed b i) ≡ body_weight w b + item_weight w i
 unfolding body_weight

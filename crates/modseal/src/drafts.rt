@@ -46,6 +46,7 @@ pub trait AnyDraft {
 }
 
 /// A draft in memory that does not grow.
+// Not an `OwnedDraft`, of the same fields and `view`: its put grows the memory, which it lends only for reading.
 #[derive(Drop)]
 pub struct FixedDraft {
     draft: Draft,

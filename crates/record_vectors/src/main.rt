@@ -35,6 +35,7 @@ impl Display for Answer<'_> {
     // By place, and not by the iterator `handles`: the lookups by place are what is compared.
     fn fmt<W: fmt::Write>(&self, f: &mut fmt::Formatter<W>) -> fmt::Result {
         let record = self.0;
+        // 0 for none: it is printed where a refusal's number stands.
         let refusal = match record.judge() {
             Ok(_) => 0,
             Err(flaw) => flaw.number(),

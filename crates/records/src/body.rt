@@ -35,6 +35,7 @@ impl<'a> Words<'a> {
     ghost use Rattle.records.specs.Left.{words_left};
 
     /// None.
+    // Written out, here and at `Body`: `Default` is not derived on a struct with a ghost field.
     pub(crate) fn none() -> Words<'a>
         ensures { words_left result ≡ [] }
     {

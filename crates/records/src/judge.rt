@@ -31,7 +31,7 @@ impl From<UnknownKind> for Flaw {
 
 impl Flaw {
     /// The number of the refusal.
-    // A method: `u8::from(flaw)` would not say which number it gives.
+    // No `From` for `u8` beside it: contracts and callers name `number`, and a conversion would be a second name for it.
     pub fn number(self) -> u8
         ensures { result ≡ flaw_number self }
     {

@@ -15,7 +15,7 @@ pub enum Rule {
 
 impl Rule {
     /// The number of the refusal.
-    // A method: `u8::from(rule)` would not say which number it gives.
+    // No `From` for `u8` beside it: contracts and callers name `number`, and a conversion would be a second name for it.
     pub fn number(self) -> u8
         ensures { result ≡ rule_number self }
     {
@@ -51,6 +51,7 @@ pub struct Fault {
 }
 
 /// Why a draft is refused.
+// Not an `Option<Fault>`: an unfinished draft is refused too, and no fault says why.
 #[derive(Clone, Copy, PartialEq, Eq, Debug)]
 pub enum Rejection {
     /// A function is open or records wait.

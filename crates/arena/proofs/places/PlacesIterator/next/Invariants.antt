@@ -1,11 +1,11 @@
 use Rattle.std.proofs.Common.{◌≡◌, length}
-use Rattle.arena.specs.Viewing.{places_left}
+use Rattle.std.specs.Iterator.Adapters.{enumerate_source}
+use Rattle.std.specs.Slice.Iter.{iter_rest}
+use Rattle.arena.specs.Viewing.{places_ahead}
 use Rattle.arena.proofs.places.PlacesIterator.next.Given as goal
 
-abbrev pub invariant-loop-slot : goal.invariant-loop-slot
-invariant-loop-slot l =
-    places_left l.self.home l.self.table l.self.inside l.self.place l.self.slots.now
-    ≡ places_left l.initial.self.home l.initial.self.table l.initial.self.inside l.initial.self.place l.initial.self.slots.now
+abbrev pub invariant-loop-place : goal.invariant-loop-place
+invariant-loop-place l = places_ahead l.self ≡ places_ahead l.initial.self
 
-abbrev pub decreases-loop-slot : goal.decreases-loop-slot
-decreases-loop-slot l = length l.self.slots.now
+abbrev pub decreases-loop-place : goal.decreases-loop-place
+decreases-loop-place l = length (iter_rest (enumerate_source l.self.slots))
