@@ -132,6 +132,21 @@ IMAGES = {
     # a type that comes twice, and a Struct that comes twice with its member
     "equal_types.img": [record(16, 1, 260), record(16, 1, 260), record(1, 2, 0, ABSENT, 0), record(24, 3, 4),
                         record(1, 2, 0, ABSENT, 0), record(24, 3, 4), record(16, 4, 261)],
+    # a constant of type 5, where there is one type
+    "not_inside.img": [record(16, 1, 260), record(64, 42), record(4, 2, 5, 0)],
+    # an ImageSample that takes itself as gradient
+    "not_earlier.img": [record(11, 1, ABSENT), *[record(64, 42)] * 4,
+                        record(77, 0, 1, ABSENT, 2, ABSENT, ABSENT, case(4, 3, 4), ABSENT, FALSE), record(31)],
+    # an empty range past the table, and one that ends before it starts
+    "bad_range.img": [record(11, 1, ABSENT), record(128, 5, 5), record(128, 1, 0), record(31)],
+    # an array whose size has as init a value of that array
+    "sized_by_itself.img": [record(16, 1, 260), record(3, 2, ABSENT, 0, 0), record(23, 3, 0, case(1, 0), 4), record(67, 1)],
+    # a function with a result of a call of itself
+    "calls_itself.img": [record(16, 1, 260), record(11, 2, ABSENT), record(87, 0), record(31)],
+    # a result that a later one replaces: only the later one's type is tested
+    "replaced_result.img": [record(16, 1, 260), record(11, 2, ABSENT), record(14, 7, ABSENT), record(14, 0, ABSENT), record(31)],
+    # a function that has not ended
+    "unfinished.img": [record(11, 1, ABSENT), record(64, 42)],
 }
 
 for name, records in IMAGES.items():

@@ -19,11 +19,11 @@ use Rattle.draft.proofs.Stepping.{admitted_kind}
 abbrev pub Sound : Record → Type 0
 Sound r = is_ok (judged r) ≡ true
 
-abbrev kind_size : Option Kind → ℕ
+abbrev pub kind_size : Option Kind → ℕ
 kind_size None = 0
 kind_size (Some k) = size_of (layout k)
 
-size_judged : (o : Option Kind) (body : List ℕ) → is_ok (judged_parts (body_of o body)) ≡ true → length body ≡ kind_size o
+pub size_judged : (o : Option Kind) (body : List ℕ) → is_ok (judged_parts (body_of o body)) ≡ true → length body ≡ kind_size o
 size_judged None body e = absurd cc
 size_judged (Some k) body e =
     elim (eqb (length body) (size_of (layout k))) as (λ b. eqb (length body) (size_of (layout k)) ≡ b → is_ok (judged_parts (cond b (Ok (k, body)) (Err WrongLength))) ≡ true → length body ≡ size_of (layout k)) [
@@ -42,7 +42,7 @@ same_front (k ∷ x) (l ∷ y) xs ys e f h =
     let c : length x ≡ length y = a ∙ ap (λ n. kind_size (kind_of n)) same ∙ sym b in
     ap suc c
 
-sound_some : (x : Record) → Sound x → 0 < length x
+pub sound_some : (x : Record) → Sound x → 0 < length x
 sound_some [] e = absurd cc
 sound_some (k ∷ x) e = omega arith
 

@@ -48,7 +48,7 @@ types_at kind.EndFunction (Some body_kind.Function) b i m = sym (append-nil m.ty
 types_at (kind.Expression e) (Some body_kind.Function) b i m = sym (append-nil m.types)
 types_at k o b i m = sym (append-nil m.types)
 
-waiting_at : (k : Kind) (o : Option BodyKind) (ws : List Record) (r : Record) → waiting_after (manner_of k).joins ws r ≡ gathered (table_in o (manner_of k).table) ws r
+pub waiting_at : (k : Kind) (o : Option BodyKind) (ws : List Record) (r : Record) → waiting_after (manner_of k).joins ws r ≡ gathered (table_in o (manner_of k).table) ws r
 waiting_at (kind.Expression e) (Some body_kind.Function) ws r = refl
 waiting_at k o ws r = refl
 

@@ -1,4 +1,5 @@
 pub mod Tables
+pub mod Taking
 pub mod Placing
 pub mod Blocks
 pub mod Putting

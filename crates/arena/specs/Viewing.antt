@@ -1,6 +1,7 @@
 -- What a view of a draft answers.
 use Rattle.std.specs.Prelude.{◌≡◌, ℕ, ◌+◌, Bool, true, false, cond, ◌&&◌, List, [], ◌∷◌, map, Some, None, Option, ◌==◌}
 use Rattle.std.specs.List.{slice_get}
+use Rattle.std.specs.Option.{is_none}
 use Rattle.std.specs.Iterator.Adapters.{enumerate_count, enumerate_source}
 use Rattle.std.specs.Slice.Iter.{iter_rest}
 use Rattle.ir.specs.declared.handle.Table.{Table}
@@ -47,6 +48,10 @@ items_in (home.EntryPoint n) t s = body_items t (slice_get (entries_now s.opened
 -- their places among the kept records
 abbrev pub places_in : Home → Table → State → List ℕ
 places_in h t s = map (λ i. i.place) (items_in h t s)
+
+-- no function is open and no records wait
+abbrev pub finished : State → Bool
+finished s = is_none s.opened && is_none s.waits
 
 -- the memory of a view is as the last call left it
 abbrev pub Views : View → Type 0

@@ -7,6 +7,7 @@ mod home;
 mod places;
 mod put;
 pub mod slot;
+mod taken;
 pub mod view;
 
 use draft::counts::Counts;

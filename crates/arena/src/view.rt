@@ -49,13 +49,20 @@ impl Draft {
 }
 
 impl<'a> View<'a> {
-    ghost use Rattle.arena.specs.Viewing.{viewed, items_in, places_in, places_ahead, slot_table};
+    ghost use Rattle.arena.specs.Viewing.{viewed, finished, items_in, places_in, places_ahead, slot_table};
 
     /// How many records are kept.
     pub fn kept(self) -> usize
         ensures { result ≡ length (viewed self.entry) }
     {
         self.draft.counts.kept
+    }
+
+    /// Whether no function is open and no records wait.
+    pub fn is_finished(self) -> bool
+        ensures { result ≡ finished (state (viewed self.entry)) }
+    {
+        self.draft.counts.opened.is_none() && self.draft.counts.waits.is_none()
     }
 
     /// The slots of the kept records.

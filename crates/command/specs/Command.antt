@@ -3,15 +3,17 @@ use Rattle.std.specs.Prelude.{ℕ, ◌+◌, ◌-◌, ◌*◌, ◌^◌, Bool, tru
 use Rattle.std.specs.Str.{bytes_eq}
 use Rattle.command.specs.declared.Word.{Word}
 use Rattle.command.specs.declared.Word.TheVariants as word
+use Rattle.command.specs.declared.Command.{Command}
+use Rattle.command.specs.declared.Command.TheVariants.{Report, Check}
 use Rattle.command.specs.declared.Request.{Request}
-use Rattle.command.specs.declared.Request.TheVariants.{Report, Help, Version}
+use Rattle.command.specs.declared.Request.TheVariants.{Read, Help, Version}
 use Rattle.command.specs.declared.Misuse.{Misuse}
 use Rattle.command.specs.declared.Misuse.TheVariants.{NoCommand, UnknownCommand, UnknownOption, NoNumber}
 use Rattle.command.specs.declared.Options.{Options}
 use Rattle.command.specs.declared.Progress.{Progress}
 use Rattle.command.specs.declared.Limit.{Limit}
 use Rattle.command.specs.declared.Limit.TheVariants as limit
-use Rattle.command.specs.declared.Progress.TheVariants.{Empty, Reporting, Awaiting, Settled}
+use Rattle.command.specs.declared.Progress.TheVariants.{Empty, Reading, Awaiting, Settled}
 
 -- from low to high, both included
 abbrev pub within : ℕ → ℕ → ℕ → Bool
@@ -46,44 +48,48 @@ abbrev pub number_in : List ℕ → Option ℕ
 number_in [] = None
 number_in (b ∷ w) = fold digit_more (Some 0) (b ∷ w)
 
--- a word behind `report`: the first that asks for help or the version, or is unknown, decides
-abbrev pub option_of : Word → Options → Progress
-option_of word.Plain o = Reporting (record o { plain = true })
-option_of word.KeepGoing o = Reporting (record o { keep_going = true })
-option_of word.Bytes o = Awaiting limit.Bytes o
-option_of word.Slots o = Awaiting limit.Slots o
-option_of word.Help o = Settled (Ok Help)
-option_of word.Version o = Settled (Ok Version)
-option_of word.StandardInput o = Reporting (record o { named = true })
-option_of word.File o = Reporting (record o { named = true })
-option_of word.Unknown o = Settled (Err UnknownOption)
+-- a word behind a command: the first that asks for help or the version, or is unknown, decides
+abbrev pub option_of : Word → Command → Options → Progress
+option_of word.Plain c o = Reading c (record o { plain = true })
+option_of word.KeepGoing c o = Reading c (record o { keep_going = true })
+option_of word.Bytes c o = Awaiting limit.Bytes c o
+option_of word.Slots c o = Awaiting limit.Slots c o
+option_of word.Help c o = Settled (Ok Help)
+option_of word.Version c o = Settled (Ok Version)
+option_of word.StandardInput c o = Reading c (record o { named = true })
+option_of word.File c o = Reading c (record o { named = true })
+option_of word.Unknown c o = Settled (Err UnknownOption)
 
 -- the word behind `--bytes` or `--slots`
-abbrev pub limit_given : Limit → Option ℕ → Options → Progress
-limit_given l None o = Settled (Err NoNumber)
-limit_given limit.Bytes (Some n) o = Reporting (record o { bytes = Some n })
-limit_given limit.Slots (Some n) o = Reporting (record o { slots = Some n })
+abbrev pub limit_given : Limit → Option ℕ → Command → Options → Progress
+limit_given l None c o = Settled (Err NoNumber)
+limit_given limit.Bytes (Some n) c o = Reading c (record o { bytes = Some n })
+limit_given limit.Slots (Some n) c o = Reading c (record o { slots = Some n })
+
+abbrev pub no_options : Options
+no_options = record { plain = false; keep_going = false; bytes = None; slots = None; named = false }
 
 -- the first word
 abbrev pub command_of : List ℕ → Progress
 command_of w =
-    cond (bytes_eq w (codes "report")) (Reporting (record { plain = false; keep_going = false; bytes = None; slots = None; named = false }))
+    cond (bytes_eq w (codes "report")) (Reading Report no_options)
+    (cond (bytes_eq w (codes "check")) (Reading Check no_options)
     (cond (bytes_eq w (codes "--help")) (Settled (Ok Help))
     (cond (bytes_eq w (codes "-h")) (Settled (Ok Help))
     (cond (bytes_eq w (codes "--version")) (Settled (Ok Version))
-    (Settled (Err UnknownCommand)))))
+    (Settled (Err UnknownCommand))))))
 
 -- one word more
 abbrev pub next_of : Progress → List ℕ → Progress
 next_of Empty w = command_of w
-next_of (Reporting o) w = option_of (word_of w) o
-next_of (Awaiting l o) w = limit_given l (number_in w) o
+next_of (Reading c o) w = option_of (word_of w) c o
+next_of (Awaiting l c o) w = limit_given l (number_in w) c o
 next_of (Settled r) w = Settled r
 
 abbrev pub finished : Progress → Result Request Misuse
 finished Empty = Err NoCommand
-finished (Reporting o) = Ok (Report o)
-finished (Awaiting l o) = Err NoNumber
+finished (Reading c o) = Ok (Read c o)
+finished (Awaiting l c o) = Err NoNumber
 finished (Settled r) = r
 
 -- a whole command line, the program's own name aside: its words from left to right

@@ -26,7 +26,16 @@ pub enum Word {
     Unknown,
 }
 
-/// How to report.
+/// What is done with the inputs.
+#[derive(Clone, Copy, PartialEq, Eq, Debug)]
+pub enum Command {
+    /// Each record is reported.
+    Report,
+    /// Only what the check answers is reported.
+    Check,
+}
+
+/// How it is done.
 #[derive(Clone, Copy, PartialEq, Eq, Default, Debug)]
 pub struct Options {
     pub plain: bool,
@@ -42,7 +51,7 @@ pub struct Options {
 /// What a command line asks for.
 #[derive(Clone, Copy, PartialEq, Eq, Debug)]
 pub enum Request {
-    Report(Options),
+    Read(Command, Options),
     Help,
     Version,
 }
@@ -104,9 +113,9 @@ enum Limit {
 enum Progress {
     /// There is none.
     Empty,
-    Reporting(Options),
+    Reading(Command, Options),
     /// An option came whose number is next.
-    Awaiting(Limit, Options),
+    Awaiting(Limit, Command, Options),
     /// A word decided, whatever comes behind it.
     // Carried through the fold, which goes on and changes nothing more: by `try_fold`, `parse` is longer, and
     // that an outcome stands wants a proof of its own.
@@ -118,33 +127,43 @@ fn take_command(text: &str) -> Progress
     ensures { result ≡ command_of text.now }
 {
     match text {
-        "report" => Progress::Reporting(Options::default()),
+        "report" => Progress::Reading(Command::Report, Options::default()),
+        "check" => Progress::Reading(Command::Check, Options::default()),
         "--help" | "-h" => Progress::Settled(Ok(Request::Help)),
         "--version" => Progress::Settled(Ok(Request::Version)),
         _ => Progress::Settled(Err(Misuse::UnknownCommand)),
     }
 }
 
-fn take_option(word: Word, options: Options) -> Progress
-    ensures { result ≡ option_of word options }
+fn take_option(word: Word, command: Command, options: Options) -> Progress
+    ensures { result ≡ option_of word command options }
 {
     match word {
-        Word::Plain => Progress::Reporting(Options {
-            plain: true,
-            ..options
-        }),
-        Word::KeepGoing => Progress::Reporting(Options {
-            keep_going: true,
-            ..options
-        }),
-        Word::Bytes => Progress::Awaiting(Limit::Bytes, options),
-        Word::Slots => Progress::Awaiting(Limit::Slots, options),
+        Word::Plain => Progress::Reading(
+            command,
+            Options {
+                plain: true,
+                ..options
+            },
+        ),
+        Word::KeepGoing => Progress::Reading(
+            command,
+            Options {
+                keep_going: true,
+                ..options
+            },
+        ),
+        Word::Bytes => Progress::Awaiting(Limit::Bytes, command, options),
+        Word::Slots => Progress::Awaiting(Limit::Slots, command, options),
         Word::Help => Progress::Settled(Ok(Request::Help)),
         Word::Version => Progress::Settled(Ok(Request::Version)),
-        Word::StandardInput | Word::File => Progress::Reporting(Options {
-            named: true,
-            ..options
-        }),
+        Word::StandardInput | Word::File => Progress::Reading(
+            command,
+            Options {
+                named: true,
+                ..options
+            },
+        ),
         Word::Unknown => Progress::Settled(Err(Misuse::UnknownOption)),
     }
 }
@@ -176,13 +195,13 @@ fn read_number(text: &str) -> Option<usize>
 }
 
 /// The word behind an option that takes a number.
-fn take_limit(limit: Limit, number: Option<usize>, options: Options) -> Progress
-    ensures { result ≡ limit_given limit number options }
+fn take_limit(limit: Limit, number: Option<usize>, command: Command, options: Options) -> Progress
+    ensures { result ≡ limit_given limit number command options }
 {
     match (limit, number) {
         (_, None) => Progress::Settled(Err(Misuse::NoNumber)),
-        (Limit::Bytes, bytes) => Progress::Reporting(Options { bytes, ..options }),
-        (Limit::Slots, slots) => Progress::Reporting(Options { slots, ..options }),
+        (Limit::Bytes, bytes) => Progress::Reading(command, Options { bytes, ..options }),
+        (Limit::Slots, slots) => Progress::Reading(command, Options { slots, ..options }),
     }
 }
 
@@ -193,8 +212,10 @@ impl Progress {
     {
         match self {
             Progress::Empty => take_command(text),
-            Progress::Reporting(options) => take_option(Word::from(text), options),
-            Progress::Awaiting(limit, options) => take_limit(limit, read_number(text), options),
+            Progress::Reading(command, options) => take_option(Word::from(text), command, options),
+            Progress::Awaiting(limit, command, options) => {
+                take_limit(limit, read_number(text), command, options)
+            }
             Progress::Settled(outcome) => Progress::Settled(outcome),
         }
     }
@@ -205,7 +226,7 @@ impl Progress {
     {
         match self {
             Progress::Empty => Err(Misuse::NoCommand),
-            Progress::Reporting(options) => Ok(Request::Report(options)),
+            Progress::Reading(command, options) => Ok(Request::Read(command, options)),
             Progress::Awaiting(..) => Err(Misuse::NoNumber),
             Progress::Settled(outcome) => outcome,
         }
@@ -259,10 +280,21 @@ mod tests {
         assert_eq!(rt; parsed(heap, "--version")?, Ok(Request::Version));
         assert_eq!(rt;
             parsed(heap, "report")?,
-            Ok(Request::Report(Options::default()))
+            Ok(Request::Read(Command::Report, Options::default()))
         );
-        assert_eq!(rt; parsed(heap, "report a -")?, Ok(Request::Report(named)));
-        assert_eq!(rt; parsed(heap, "report -")?, Ok(Request::Report(named)));
+        assert_eq!(rt;
+            parsed(heap, "report a -")?,
+            Ok(Request::Read(Command::Report, named))
+        );
+        assert_eq!(rt;
+            parsed(heap, "report -")?,
+            Ok(Request::Read(Command::Report, named))
+        );
+        assert_eq!(rt;
+            parsed(heap, "check a")?,
+            Ok(Request::Read(Command::Check, named))
+        );
+        assert_eq!(rt; parsed(heap, "check --bytes")?, Err(Misuse::NoNumber));
         Ok(())
     }
 
@@ -288,19 +320,19 @@ mod tests {
         };
         assert_eq!(rt;
             parsed(heap, "report a --plain b")?,
-            Ok(Request::Report(plain))
+            Ok(Request::Read(Command::Report, plain))
         );
         assert_eq!(rt;
             parsed(heap, "report --keep-going a")?,
-            Ok(Request::Report(keep_going))
+            Ok(Request::Read(Command::Report, keep_going))
         );
         assert_eq!(rt;
             parsed(heap, "report --bytes 10 a")?,
-            Ok(Request::Report(ten_bytes))
+            Ok(Request::Read(Command::Report, ten_bytes))
         );
         assert_eq!(rt;
             parsed(heap, "report --slots 007")?,
-            Ok(Request::Report(seven_slots))
+            Ok(Request::Read(Command::Report, seven_slots))
         );
         assert_eq!(rt; parsed(heap, "report --bytes")?, Err(Misuse::NoNumber));
         assert_eq!(rt; parsed(heap, "report --bytes 1x a")?, Err(Misuse::NoNumber));

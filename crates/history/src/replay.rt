@@ -1,25 +1,25 @@
 //! Makes every call of a list on a new draft.
-ghost use Rattle.std.specs.Prelude.{◌≡◌, min, [], ◌++◌, map, length};
+ghost use Rattle.std.specs.Prelude.{◌≡◌, min, [], ◌++◌, length};
 ghost use Rattle.arena.specs.Memory.{Stands, records};
-ghost use Rattle.arena.specs.Put.{put_def};
-ghost use Rattle.history.specs.declared.calls.Outcome.TheVariants as outcome;
-ghost use Rattle.history.specs.Calls.{record_of, outcomes, Replayed};
-ghost use Rattle.history.specs.Runs.{put_kept, run};
+ghost use Rattle.history.specs.Calls.{outcome_of, kept_by, outcomes, puts_of, Replayed};
+ghost use Rattle.history.specs.Runs.{run};
 
 use crate::calls::{Call, Outcome};
 use arena::Draft;
 use arena::slot::Slot;
+use valid::check::check;
 
 /// Makes one call.
 // Lent on each call; a struct of the three must also promise that its references stay: no plainer.
 fn make(call: Call<'_>, draft: &mut Draft, bytes: &mut [u8], slots: &mut [Slot]) -> Outcome
     requires { Stands draft.old bytes.old slots.old }
     ensures stands { Stands draft.new bytes.new slots.new }
-    ensures answers { result ≡ outcome.Put (put_def (length bytes.old) (length slots.old) (records draft.old bytes.old slots.old) (record_of call.entry)).0 }
-    ensures keeps { records draft.new bytes.new slots.new ≡ put_kept (length bytes.old) (length slots.old) (records draft.old bytes.old slots.old) (record_of call.entry) }
+    ensures answers { result ≡ outcome_of (length bytes.old) (length slots.old) (records draft.old bytes.old slots.old) call.entry }
+    ensures keeps { records draft.new bytes.new slots.new ≡ kept_by (length bytes.old) (length slots.old) (records draft.old bytes.old slots.old) call.entry }
 {
     match call {
         Call::Put(record) => Outcome::Put(draft.put(bytes, slots, record)),
+        Call::Check => Outcome::Checked(check(draft.view(bytes, slots))),
     }
 }
 

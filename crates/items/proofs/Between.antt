@@ -1,7 +1,7 @@
 -- Items place by place.
-use Rattle.std.proofs.Common.{◌≡◌, ℕ, suc, ◌+◌, ◌-◌, ◌<◌, ◌≤◌, Bool, true, false, cond, List, [], ◌∷◌, ◌++◌, length, get_or, take, drop, Some, fold, sym, refl, ap, ◌∙◌, append-nil, arith, subst, take-append-drop}
+use Rattle.std.proofs.Common.{◌≡◌, ℕ, suc, ◌+◌, ◌-◌, ◌<◌, ◌≤◌, Bool, true, false, cond, List, [], ◌∷◌, ◌++◌, length, get_or, take, drop, min, Some, fold, sym, refl, ap, ◌∙◌, append-nil, arith, subst, take-append-drop}
 use Rattle.std.specs.List.{slice_get}
-use Rattle.std.proofs.lemmas.List.{at_drop_more, at_drop_all, get_or-take, length-take-le, length-take, drop-take, drop-drop, length_push}
+use Rattle.std.proofs.lemmas.List.{at_drop_more, at_drop_all, get_or-take, length-take-le, length-take, length-drop, drop-take, drop-drop, length_push, take_min}
 use Rattle.std.proofs.Math.Seq.{take-add}
 use Rattle.std.proofs.lemmas.List.Sums.{fold-append}
 use Rattle.std.proofs.lemmas.Option.{slice_get_within, get_or_from_slice_get}
@@ -32,10 +32,11 @@ pub state_next : (m : List Record) (x : ℕ) (r : Record) → slice_get m x ≡ 
 state_next m x r e = state_more m x (slice_get_within m x r e) ∙ ap (step (state (take x m))) (get_or_from_slice_get m x r [] e)
 
 module _ (sec : Section) (m : List Record) (a : Accepted start m) (x to : ℕ) (r : Record) (e : slice_get m x ≡ Some r) (l : x < to) (t : to ≤ length m) where
-  item_is : item_of (state (take x m)) r ≡ item_at m x r
+  pub item_is : item_of (state (take x m)) r ≡ item_at m x r
   item_is = let k = kept_at m x a (omega arith) in ap (λ p. record { place = p; bytes = r; taken = (state (take x m)).waiting }) k
 
-  split : items_between sec m x to ≡ cond (selects sec (state (take x m)) r) (item_at m x r ∷ items_between sec m (x + 1) to) (items_between sec m (x + 1) to)
+  -- the item of the record at a place, if it makes one, and those behind it
+  pub split : items_between sec m x to ≡ cond (selects sec (state (take x m)) r) (item_at m x r ∷ items_between sec m (x + 1) to) (items_between sec m (x + 1) to)
   unfolding items_between
   split =
       let n = length-take-le to m t in
@@ -111,3 +112,22 @@ module _ (sec : Section) (m : List Record) (a : Accepted start m) (from x : ℕ)
       let h = miss sec m a x (x + 1) r e (omega arith) (within_next m x r e) slot at c in
       let n = none_between sec m (x + 1) (x + 1) (omega arith) in
       ap length (p ∙ ap (λ l. items_between sec m from x ++ l) (h ∙ n)) ∙ ap length (append-nil (items_between sec m from x))
+
+-- past the last record there are none
+pub between_all : (sec : Section) (m : List Record) (x to : ℕ) → items_between sec m x (min to (length m)) ≡ items_between sec m x to
+unfolding items_between
+between_all sec m x to = ap (λ l. gained sec (state (take x m)) (drop x l)) (take_min to m)
+
+pub one_more : {X : Type 0} (b : Bool) (x : X) (xs : List X) (n : ℕ) → length xs ≤ n → length (cond b (x ∷ xs) xs) ≤ suc n
+one_more true x xs n l = omega arith
+one_more false x xs n l = omega arith
+
+gained_few : (sec : Section) (s : State) (m : List Record) → length (gained sec s m) ≤ length m
+gained_few sec s [] = omega arith
+gained_few sec s (r ∷ m) = one_more (selects sec s r) (item_of s r) (gained sec (step s r) m) (length m) (gained_few sec (step s r) m)
+
+-- there are no more items than places
+pub few_between : (sec : Section) (m : List Record) (x to : ℕ) → length (items_between sec m x to) ≤ to
+unfolding items_between
+few_between sec m x to =
+    omega (arith, gained_few sec (state (take x m)) (drop x (take to m)), length-drop x (take to m), length-take to m)

@@ -1,55 +1,37 @@
--- The tests that are left, place by place.
-use Rattle.std.proofs.Common.{◌≡◌, ℕ, suc, ◌+◌, ◌<◌, ◌≤◌, true, false, List, [], ◌∷◌, ◌++◌, length, Some, None, sym, refl, ap, ◌∙◌, arith}
-use Rattle.std.specs.List.{flat_map}
-use Rattle.rules.specs.declared.faults.Fault.{Fault}
-use Rattle.rules.specs.Module.{Record, Item}
-use Rattle.rules.specs.Fault.{Test, first, numbered_from, numbered}
-use Rattle.rules.proofs.Firsts.{passed, stopped}
-use Rattle.draft.specs.State.{start}
-use Rattle.draft.specs.Admitted.{Accepted}
-use Rattle.arena.specs.declared.slot.Slot.{Slot}
-use Rattle.items.specs.declared.section.Section.{Section}
-use Rattle.items.specs.Sections.{chosen}
-use Rattle.items.specs.Between.{EntryAt, item_at, items_between}
-use Rattle.items.specs.Left.{left}
-use Rattle.items.proofs.Between.{none_between, hit, miss, count_hit, count_miss}
+-- Going through all items that are left.
+use Rattle.std.proofs.Common.{◌≡◌, ℕ, ◌^◌, ◌<◌, List, [], ◌∷◌, map, length, Some, None, Option, refl, ap, ◌∙◌, arith}
+use Rattle.std.specs.List.{last_or}
+use Rattle.std.specs.Option.{option_map}
+use Rattle.std.specs.Iterator.{YieldsFirstBy, Drains, DrainsIf}
+use Rattle.std.proofs.lemmas.Iterator.{items_from_drains}
+use Rattle.std.proofs.lemmas.Iterator.Consumers.{count_from_yields_List, YieldsList-from_first}
+use Rattle.arena.specs.Viewing.{viewed}
+use Rattle.items.specs.declared.item.Item.{Item as Shown}
+use Rattle.items.specs.declared.items.Items.{Items}
+use Rattle.items.specs.Item.{shown, items_left}
+use Rattle.items.specs.Whole.{last_of}
+use Rattle.items.proofs.Between.{few_between}
 
--- tests that ask for no number
-pub unnumbered : {X : Type 0} (f : X → List Test) (n : ℕ) (xs : List X) → numbered_from (λ _ x. f x) n xs ≡ flat_map f xs
-unnumbered f n [] = refl
-unnumbered f n (x ∷ xs) = ap (λ l. f x ++ l) (unnumbered f (suc n) xs)
+-- there are fewer than 2 ^ 64
+pub left_few : (s : Items) → length (items_left s) < 2 ^ 64
+left_few s = let fits = s.fits in omega (arith, few_between s.section (viewed s.view) s.place s.end)
 
-module _ (f : ℕ → Item → List Test) (sec : Section) (m : List Record) (from : ℕ) where
-  -- all are left at the start, and none at the end
-  pub left_start : (to : ℕ) → left f sec m from from to ≡ first (numbered f (items_between sec m from to))
-  unfolding left
-  left_start to = ap (λ l. first (numbered_from f (length l) (items_between sec m from to))) (none_between sec m from from (omega arith))
+-- what `count` gives
+pub left_counted : (s : Items) (n : ℕ) → (xs : List Shown) × Drains (YieldsFirstBy shown items_left) s xs × (n ≡ length xs) → n ≡ length (items_left s)
+left_counted s n h = count_from_yields_List s n h (YieldsList-from_first shown items_left _ refl)
 
-  pub left_end : (x to : ℕ) → to ≤ x → left f sec m from x to ≡ None
-  unfolding left
-  left_end x to l = ap (λ xs. first (numbered_from f (length (items_between sec m from x)) xs)) (none_between sec m x to l)
+last_shown : (i : Shown) (xs : List Shown) → option_map shown (last_or (Some i) xs) ≡ last_of (shown i ∷ map shown xs)
+last_shown i [] = refl
+last_shown i (j ∷ xs) = last_shown j xs
 
-  module _ (a : Accepted start m) (x to : ℕ) (l : x < to) (t : to ≤ length m) (b : from ≤ x) (slot : Slot) (r : Record) (at : EntryAt m x slot r) where
-    abbrev so_far : ℕ
-    so_far = length (items_between sec m from x)
+last_mapped : (xs : List Shown) → option_map shown (last_or None xs) ≡ last_of (map shown xs)
+last_mapped [] = refl
+last_mapped (i ∷ xs) = last_shown i xs
 
-    -- a record that makes no item of the section
-    pub left_miss : chosen sec slot.table r ≡ false → left f sec m from x to ≡ left f sec m from (x + 1) to
-    unfolding left
-    left_miss c =
-        ap (λ xs. first (numbered_from f so_far xs)) (miss sec m a x to r at.has l t slot at c)
-        ∙ ap (λ n. first (numbered_from f n (items_between sec m (x + 1) to))) (sym (count_miss sec m a from x b r at.has slot at c))
-
-    left_split : chosen sec slot.table r ≡ true → left f sec m from x to ≡ first (f so_far (item_at m x r) ++ numbered_from f (length (items_between sec m from (x + 1))) (items_between sec m (x + 1) to))
-    unfolding left
-    left_split c =
-        ap (λ xs. first (numbered_from f so_far xs)) (hit sec m a x to r at.has l t slot at c)
-        ∙ ap (λ n. first (f so_far (item_at m x r) ++ numbered_from f n (items_between sec m (x + 1) to))) (sym (count_hit sec m a from x b r at.has slot at c))
-
-    -- an item whose tests pass, and one with a fault
-    pub left_pass : chosen sec slot.table r ≡ true → first (f so_far (item_at m x r)) ≡ None → left f sec m from x to ≡ left f sec m from (x + 1) to
-    unfolding left
-    left_pass c p = left_split c ∙ passed (f so_far (item_at m x r)) (numbered_from f (length (items_between sec m from (x + 1))) (items_between sec m (x + 1) to)) p
-
-    pub left_fail : chosen sec slot.table r ≡ true → (e : Fault) → first (f so_far (item_at m x r)) ≡ Some e → left f sec m from x to ≡ Some e
-    left_fail c e p = left_split c ∙ stopped (f so_far (item_at m x r)) (numbered_from f (length (items_between sec m from (x + 1))) (items_between sec m (x + 1) to)) e p
+-- what `last` gives
+pub left_last : (s : Items) (r : Option Shown) → (xs : List Shown) × Drains (YieldsFirstBy shown items_left) s xs × (r ≡ last_or None xs) → option_map shown r ≡ last_of (items_left s)
+left_last s r h =
+    let drains : DrainsIf (YieldsFirstBy shown items_left) (Unit {0}) s h.0 = (h.1.1.0, h.1.1.1, λ _. (h.1.0, h.1.1.2)) in
+    ap (option_map shown) h.2
+    ∙ last_mapped h.0
+    ∙ ap last_of (items_from_drains h.0 drains (YieldsList-from_first shown items_left _ refl))

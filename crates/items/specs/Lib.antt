@@ -1,3 +1,4 @@
 pub mod Sections
 pub mod Between
-pub mod Left
+pub mod Whole
+pub mod Item

@@ -5,10 +5,11 @@ mod drafts;
 mod named;
 mod report;
 mod show;
+mod verdict;
 
-use crate::drafts::FixedDraft;
+use crate::drafts::{AnyDraft, FixedDraft};
 use crate::report::Reporter;
-use command::{Misuse, Options, Request, Word, parse};
+use command::{Command, Misuse, Options, Request, Word, parse};
 use owned::owned::OwnedDraft;
 use records::image::Records;
 use std::io::{BufWriter, Read, Write};
@@ -18,17 +19,24 @@ use std::{env, fs, io};
 const HELP: &str = "modseal: reads images of shader modules
 
 usage: modseal report [OPTION...] [FILE...]
+       modseal check [OPTION...] [FILE...]
        modseal --help | -h | --version
 
 report puts each record of each FILE, or of standard input where no FILE is named
 or FILE is -, into a new draft, and prints its index from 0, its offset, its kind,
 the number that it got and its fields, or the number of its refusal, which ends
-the report of that image; at last how many items each table has, and what each
-number names
+the report of that image; at last how many items each table has, what each number
+names, and whether the module of what was kept passes the check
+
+check prints one line for each FILE, NAME: check passed, or why it is refused by the
+draft or the check; the status is 1 where one is refused
 
 --plain       one line a record: record INDEX KIND NUMBER, or
-              record INDEX KIND refused NUMBER
---keep-going  go on behind a refused record
+              record INDEX KIND refused NUMBER; at last check passed, or
+              check NUMBER KIND FIRST SECOND POSITION
+              (check: NAME: check passed, or
+              NAME: check NUMBER KIND FIRST SECOND POSITION)
+--keep-going  report: go on behind a refused record
 --bytes N     lend the draft N bytes, and
 --slots N     N slots: as many as the image needs where this is not said";
 
@@ -38,49 +46,67 @@ fn read_input(rt: &HostRuntime) -> io::Result<Vec<u8>> {
     Ok(image)
 }
 
-/// The report of inputs on standard output.
+/// What is done with the inputs, on standard output.
 #[derive(Clone, Copy)]
 struct Inputs<'a> {
     rt: &'a HostRuntime,
+    command: Command,
     options: Options,
 }
 
 impl Inputs<'_> {
-    /// Reports an image, in memory that grows unless an option fixes it.
-    fn report_image(&self, name: &str, image: &[u8]) -> io::Result<()> {
+    /// Reports or checks an image; whether the check, if it is asked for, passes.
+    fn read_into<W: Write, D: AnyDraft + Drop>(
+        &self,
+        reporter: &mut Reporter<'_, W>,
+        name: &str,
+        image: &[u8],
+        draft: D,
+    ) -> io::Result<bool> {
+        match self.command {
+            Command::Report => {
+                reporter.report(image, draft)?;
+                Ok(true)
+            }
+            Command::Check => reporter.check(name, image, draft),
+        }
+    }
+
+    /// Reports or checks an image, in memory that grows unless an option fixes it; whether the check, if it
+    /// is asked for, passes.
+    fn read_image(&self, name: &str, image: &[u8]) -> io::Result<bool> {
         let heap = self.rt.alloc();
         let options = self.options;
         let mut out = BufWriter::new(heap, self.rt.stdout())?;
-        if !options.plain {
+        if self.command == Command::Report && !options.plain {
             writeln!(out, "image {name}: {} bytes", image.len())?;
         }
         let mut reporter = Reporter {
             out: &mut out,
             options,
         };
-        match (options.bytes, options.slots) {
-            (None, None) => reporter.report(image, OwnedDraft::new(heap))?,
+        let passed = match (options.bytes, options.slots) {
+            (None, None) => self.read_into(&mut reporter, name, image, OwnedDraft::new(heap))?,
             (bytes, slots) => {
                 let bytes = bytes.unwrap_or(image.len());
                 let slots = slots.unwrap_or_else(|| Records::new(image).count());
-                reporter.report(image, FixedDraft::new(heap, bytes, slots)?)?;
+                let draft = FixedDraft::new(heap, bytes, slots)?;
+                self.read_into(&mut reporter, name, image, draft)?
             }
-        }
-        out.flush()
+        };
+        out.flush()?;
+        Ok(passed)
     }
 
-    /// Reports one input; whether it could be read.
+    /// Reports or checks one input; whether it could be read, and passes.
     // A `bool` and no error: what went wrong is written here, and the other inputs follow.
-    fn report_input(&self, name: &str, word: Word) -> io::Result<bool> {
+    fn take_input(&self, name: &str, word: Word) -> io::Result<bool> {
         let read = match word {
             Word::StandardInput => read_input(self.rt),
             _ => fs::read(self.rt, name),
         };
         match read {
-            Ok(image) => {
-                self.report_image(name, image.as_slice())?;
-                Ok(true)
-            }
+            Ok(image) => self.read_image(name, image.as_slice()),
             Err(error) => {
                 eprintln!(self.rt; "modseal: {name}: {error}")?;
                 Ok(false)
@@ -88,11 +114,12 @@ impl Inputs<'_> {
         }
     }
 
-    /// Reports every input that the words behind the command name; whether all could be read.
+    /// Reports or checks every input that the words behind the command name; whether all could be read, and
+    /// pass.
     // The words are read again for the names: the options are `Copy` and hold no text.
-    fn report_all(&self, words: &[String]) -> io::Result<bool> {
+    fn take_all(&self, words: &[String]) -> io::Result<bool> {
         if !self.options.named {
-            return self.report_input("-", Word::StandardInput);
+            return self.take_input("-", Word::StandardInput);
         }
         let mut all = true;
         let mut words = words.iter().skip(1);
@@ -102,7 +129,7 @@ impl Inputs<'_> {
                     let _number = words.next();
                 }
                 word @ (Word::File | Word::StandardInput) => {
-                    all = self.report_input(name.as_str(), word)? && all;
+                    all = self.take_input(name.as_str(), word)? && all;
                 }
                 _ => {}
             }
@@ -132,7 +159,12 @@ fn run(rt: &HostRuntime) -> io::Result<bool> {
     let _ = args.next();
     let words: Vec<String> = args.collect(rt.alloc())?;
     match parse(words.as_slice()) {
-        Ok(Request::Report(options)) => Inputs { rt, options }.report_all(words.as_slice()),
+        Ok(Request::Read(command, options)) => Inputs {
+            rt,
+            command,
+            options,
+        }
+        .take_all(words.as_slice()),
         Ok(Request::Help) => {
             println!(rt; "{HELP}")?;
             Ok(true)

@@ -2,6 +2,7 @@
 use crate::drafts::{AnyDraft, Outcome};
 use crate::named::show_names;
 use crate::show::{Fields, Totals};
+use crate::verdict;
 use arena::answer::answered_number;
 use command::Options;
 use records::image::{Record, Records};
@@ -88,10 +89,11 @@ impl<W: Write> Reporter<'_, W> {
     /// Shows what the draft has come to.
     fn show_end<D: AnyDraft>(&mut self, draft: &D) -> io::Result<()> {
         if self.options.plain {
-            return Ok(());
+            return writeln!(self.out, "{}", verdict::Plain::of(draft.view()));
         }
         write!(self.out, "{}", Totals(draft.counts()))?;
-        show_names(self.out, draft.view())
+        show_names(self.out, draft.view())?;
+        writeln!(self.out, "{}", verdict::Full::of(draft.view()))
     }
 
     /// Puts each record of an image into a new draft and shows what it answered, up to the first that
@@ -113,5 +115,36 @@ impl<W: Write> Reporter<'_, W> {
             offset += record.bytes.len();
         }
         self.show_end(&draft)
+    }
+
+    /// Puts each record of an image into a new draft, up to the first that it refuses, and shows on one line
+    /// what the check answers; whether it passes.
+    pub fn check<D: AnyDraft + Drop>(
+        &mut self,
+        name: &str,
+        image: &[u8],
+        mut draft: D,
+    ) -> io::Result<bool> {
+        for (index, record) in Records::new(image).enumerate() {
+            if let Err(refusal) = draft.put(record.bytes)? {
+                let number = refusal.number();
+                if self.options.plain {
+                    writeln!(self.out, "{name}: check {number} 0 0 0 0")?;
+                } else {
+                    writeln!(
+                        self.out,
+                        "{name}: record {index} refused {number}: {refusal}"
+                    )?;
+                }
+                return Ok(false);
+            }
+        }
+        let answer = verdict::Plain::of(draft.view());
+        if self.options.plain {
+            writeln!(self.out, "{name}: {answer}")?;
+        } else {
+            writeln!(self.out, "{name}: {}", verdict::Full::of(draft.view()))?;
+        }
+        Ok(answer.is_passed())
     }
 }

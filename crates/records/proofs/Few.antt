@@ -1,5 +1,5 @@
 -- A body has no more handles than bytes.
-use Rattle.std.proofs.Common.{◌≡◌, ℕ, zero, suc, ◌+◌, ◌≤◌, Bool, true, ◌&&◌, leb, List, [], ◌∷◌, length, drop, Some, None, Option, refl, subst, arith, length-append, sym}
+use Rattle.std.proofs.Common.{◌≡◌, ℕ, ◌*◌, zero, suc, ◌+◌, ◌≤◌, Bool, true, ◌&&◌, leb, List, [], ◌∷◌, length, drop, Some, None, Option, refl, subst, arith, length-append, sym}
 use Rattle.std.proofs.lemmas.Bool.{and_parts, leb-true}
 use Rattle.std.proofs.lemmas.Option.{same_Some}
 use Rattle.std.specs.List.{slice_get}
@@ -14,6 +14,7 @@ use Rattle.ir.specs.Field.{cases_of, words_of, width_of, handle_in}
 use Rattle.ir.specs.Layout.{size_of}
 use Rattle.records.specs.Handles.{joining, words_handles, case_handles, field_handles, fields_handles}
 use Rattle.records.specs.Record.{number}
+use Rattle.records.specs.declared.body.Words.{Words}
 use Rattle.records.specs.declared.handles.Handles.{Handles}
 use Rattle.records.specs.Left.{body_left}
 use Rattle.records.specs.Gathered.{word_handles, handles_in, handles_left}
@@ -54,18 +55,21 @@ field_few (Case c) bytes =
     let few = case_few (words_of c) (slice_get (cases_of c) (slice_index bytes 0)) (drop 1 bytes) (λ ws e. row_fits (words_of c) (cases_of c) (slice_index bytes 0) ws (all_rows c) e) in
     omega (arith, few)
 
-fields_few : (fs : List Field) (bytes : List ℕ) → length (fields_handles fs bytes) ≤ size_of fs
+pub fields_few : (fs : List Field) (bytes : List ℕ) → length (fields_handles fs bytes) ≤ size_of fs
 fields_few [] bytes = omega arith
 fields_few (f ∷ fs) bytes =
     let here = field_few f bytes in
     let later = fields_few fs (drop (width_of f) bytes) in
     simp length-append (omega (arith, here, later))
 
+words_few_in : (w : Words) → length (word_handles w) ≤ length w.words.now
+words_few_in w = subst (λ (hs : List Handle). length hs ≤ length w.words.now) (sym (words_gathered w.words.now w.bytes.now)) (words_few w.words.now w.bytes.now)
+
 -- of what is left of a body
-pub left_few : (h : Handles) → length (handles_left h) ≤ length h.words.bytes.now + length h.later.bytes.now
+pub left_few : (h : Handles) → 2 * length (handles_left h) ≤ length h.front.bytes.now + length h.words.bytes.now + 2 * length h.later.bytes.now
 left_few h =
-    let here : length (word_handles h.words) ≤ length h.words.words.now =
-    subst (λ (hs : List Handle). length hs ≤ length h.words.words.now) (sym (words_gathered h.words.words.now h.words.bytes.now)) (words_few h.words.words.now h.words.bytes.now) in
+    let front = words_few_in h.front in
+    let here = words_few_in h.words in
     let later : length (handles_in (body_left h.later)) ≤ size_of h.later.fields.now =
     subst (λ (hs : List Handle). length hs ≤ size_of h.later.fields.now) (sym (fields_gathered h.later.fields.now h.later.bytes.now)) (fields_few h.later.fields.now h.later.bytes.now) in
-    simp length-append (omega (arith, here, later, h.words.room, h.later.room))
+    simp length-append (omega (arith, front, here, later, h.front.room, h.words.room, h.later.room))

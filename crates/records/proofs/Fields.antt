@@ -1,5 +1,5 @@
 -- What is said of fields and words one by one is what is said of whole bodies.
-use Rattle.std.proofs.Common.{◌≡◌, ℕ, Bool, true, cond, ◌&&◌, List, [], ◌∷◌, ◌++◌, drop, Some, None, Ok, Err, Option, Result, refl, sym, ap, ◌∙◌}
+use Rattle.std.proofs.Common.{◌≡◌, ℕ, zero, suc, Bool, true, cond, ◌&&◌, List, [], ◌∷◌, ◌++◌, drop, Some, None, Ok, Err, Option, Result, refl, sym, ap, ◌∙◌}
 use Rattle.std.specs.Prelude.{slice_index}
 use Rattle.std.specs.List.{slice_get, list_all, filter_map, cons_option}
 use Rattle.std.proofs.lemmas.Option.{none-some, same_Some}
@@ -14,9 +14,9 @@ use Rattle.ir.specs.Layout.{layout}
 use Rattle.records.specs.declared.judge.Flaw.{Flaw}
 use Rattle.records.specs.declared.judge.Flaw.TheVariants.{BadField}
 use Rattle.records.specs.Record.{number, words_fit, case_fits, field_fits, fields_fit, judged_parts, parts_of, judged}
-use Rattle.records.specs.Handles.{joining, words_handles, field_handles, fields_handles, fields_tested, parts_handles, handles_of}
+use Rattle.records.specs.Handles.{joining, words_handles, field_handles, fields_handles, fields_tested, parts_handles, handles_of, field_in, parts_field, field_of}
 use Rattle.records.specs.Left.{words_in, row_words, field_words, placed, all_fit, placed_parts, fields_of}
-use Rattle.records.specs.Gathered.{word_handle, handles_in, tested_in}
+use Rattle.records.specs.Gathered.{word_handle, handles_at, handles_in, tested_in}
 
 -- a word may hold its number
 abbrev pub word_fits : Word × ℕ → Bool
@@ -88,6 +88,35 @@ module _ {k : Kind} {ps : List (Field × List ℕ)} where
   handles_are bytes e =
       let p = parts_are (parts_of bytes) e in
       ap handles_in p.2 ∙ fields_gathered (layout k) p.0 ∙ sym (ap parts_handles p.1)
+
+-- one field of a body
+field_at : (fs : List Field) (n : ℕ) (bytes : List ℕ) (p : Field × List ℕ) → slice_get (placed fs bytes) n ≡ Some p → handles_at p ≡ field_in fs n bytes
+field_at [] n bytes p e = absurd cc
+field_at (f ∷ fs) zero bytes p e = sym (ap handles_at (same_Some (f, bytes) p e))
+field_at (f ∷ fs) (suc n) bytes p e = field_at fs n (drop (width_of f) bytes) p e
+
+no_field : (fs : List Field) (n : ℕ) (bytes : List ℕ) → slice_get (placed fs bytes) n ≡ None → [] ≡ field_in fs n bytes
+no_field [] n bytes e = refl
+no_field (f ∷ fs) zero bytes e = absurd cc
+no_field (f ∷ fs) (suc n) bytes e = no_field fs n (drop (width_of f) bytes) e
+
+module _ (bytes : List ℕ) (k : Kind) {ps : List (Field × List ℕ)} (e : fields_of bytes ≡ Ok (k, ps)) (n : ℕ) where
+  pub field_is : (p : Field × List ℕ) → slice_get ps n ≡ Some p → handles_at p ≡ field_of bytes n
+  field_is p at =
+      let q = parts_are (parts_of bytes) e in
+      field_at (layout k) n q.0 p (sym (ap (λ l. slice_get l n) q.2) ∙ at) ∙ sym (ap (λ r. parts_field r n) q.1)
+
+  pub field_past : slice_get ps n ≡ None → [] ≡ field_of bytes n
+  field_past at =
+      let q = parts_are (parts_of bytes) e in
+      no_field (layout k) n q.0 (sym (ap (λ l. slice_get l n) q.2) ∙ at) ∙ sym (ap (λ r. parts_field r n) q.1)
+
+no_field_of : (r : Result (Kind × List ℕ) Flaw) (e : Flaw) (n : ℕ) → placed_parts r ≡ Err e → [] ≡ parts_field r n
+no_field_of (Ok p) e n same = absurd cc
+no_field_of (Err f) e n same = refl
+
+pub field_none : (bytes : List ℕ) (e : Flaw) (n : ℕ) → fields_of bytes ≡ Err e → [] ≡ field_of bytes n
+field_none bytes e n same = no_field_of (parts_of bytes) e n same
 
 no_handles : (r : Result (Kind × List ℕ) Flaw) (e : Flaw) → placed_parts r ≡ Err e → [] ≡ parts_handles r
 no_handles (Ok p) e same = absurd cc

@@ -1,9 +1,7 @@
 -- The second field before the first.
-use Rattle.std.proofs.Common.{◌≡◌, ℕ, Bool, true, false, List, [], ◌∷◌, ◌++◌, drop, Ok, Err, Option, Result, refl, append_assoc, sym, ap, ◌∙◌}
-use Rattle.std.specs.List.{slice_get}
+use Rattle.std.proofs.Common.{◌≡◌, ℕ, Bool, true, false, List, [], ◌∷◌, ◌++◌, drop, Ok, Err, Result, refl, append_assoc, sym, ap, ◌∙◌}
 use Rattle.std.specs.List.Sorted.{IsPermutation}
 use Rattle.std.proofs.lemmas.List.Sorted.{IsPermutation-refl, IsPermutation-append_comm, IsPermutation-append_left}
-use Rattle.ir.specs.declared.handle.Handle.{Handle}
 use Rattle.ir.specs.declared.fields.Field.{Field}
 use Rattle.ir.specs.Field.{width_of}
 use Rattle.ir.specs.declared.kinds.Kind.{Kind}
@@ -25,8 +23,8 @@ pub tested_one : (ps qs : List (Field × List ℕ)) {p : Field × List ℕ} → 
 tested_one ps qs {p} e none = rw (e, none) refl
 
 -- the handles of the second field, of the first and of the others
-pub tested_more : (ps qs rs : List (Field × List ℕ)) {p q : Field × List ℕ} → ps ≡ p ∷ qs → qs ≡ q ∷ rs → (handles_at q ++ handles_at p) ++ handles_in rs ≡ tested_in ps
-tested_more ps qs rs {p} {q} e f = rw (e, f) (append_assoc (handles_at q) (handles_at p) (handles_in rs))
+pub tested_more : (ps qs rs : List (Field × List ℕ)) {p q : Field × List ℕ} → ps ≡ p ∷ qs → qs ≡ q ∷ rs → handles_at q ++ (handles_at p ++ handles_in rs) ≡ tested_in ps
+tested_more ps qs rs {p} {q} e f = rw (e, f) refl
 
 -- the same elements, one list moved behind another
 behind : {X : Type 0} (xs ys zs : List X) → IsPermutation (xs ++ (ys ++ zs)) (ys ++ (xs ++ zs))
@@ -48,10 +46,10 @@ parts_same (Err e) = IsPermutation-refl []
 pub same_handles : (bytes : List ℕ) → IsPermutation (handles_of bytes) (tested_of bytes)
 same_handles bytes = parts_same (parts_of bytes)
 
-pub tested_at : (bytes : List ℕ) (k : Kind) {ps : List (Field × List ℕ)} (place : ℕ) {r : Option Handle} → fields_of bytes ≡ Ok (k, ps) → true ≡ second_first k → r ≡ slice_get (tested_in ps) place → r ≡ slice_get (tested_of bytes) place
-tested_at bytes k {ps} place is swaps at =
+pub tested_are : (bytes : List ℕ) (k : Kind) {ps : List (Field × List ℕ)} → fields_of bytes ≡ Ok (k, ps) → true ≡ second_first k → tested_in ps ≡ tested_of bytes
+tested_are bytes k {ps} is swaps =
     let p = parts_are (parts_of bytes) is in
-    at ∙ ap (λ hs. slice_get hs place) (ap tested_in p.2 ∙ fields_swapped (layout k) p.0 ∙ ap (λ b. fields_tested b (layout k) p.0) swaps ∙ sym (ap parts_tested p.1))
+    ap tested_in p.2 ∙ fields_swapped (layout k) p.0 ∙ ap (λ b. fields_tested b (layout k) p.0) swaps ∙ sym (ap parts_tested p.1)
 
 -- of a record whose fields are not swapped, and of what is no record
 

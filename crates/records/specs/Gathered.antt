@@ -32,4 +32,4 @@ tested_in (p ∷ q ∷ ps) = handles_at q ++ (handles_at p ++ handles_in ps)
 
 -- what a search for handles has not passed yet
 abbrev pub handles_left : Handles → List Handle
-handles_left h = word_handles h.words ++ handles_in (body_left h.later)
+handles_left h = word_handles h.front ++ (word_handles h.words ++ handles_in (body_left h.later))

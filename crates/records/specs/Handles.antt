@@ -1,5 +1,5 @@
 -- The handles of a record, in the order of its fields and in the order in which they are tested.
-use Rattle.std.specs.Prelude.{ℕ, Bool, true, false, List, [], ◌∷◌, ◌++◌, drop, Some, None, Ok, Err, Option, Result, slice_index}
+use Rattle.std.specs.Prelude.{ℕ, zero, suc, Bool, true, false, List, [], ◌∷◌, ◌++◌, drop, Some, None, Ok, Err, Option, Result, slice_index}
 use Rattle.std.specs.List.{slice_get}
 use Rattle.ir.specs.declared.handle.Handle.{Handle}
 use Rattle.ir.specs.declared.fields.Word.{Word}
@@ -59,3 +59,16 @@ parts_tested (Err e) = []
 -- the same handles in the order in which those of an expression or a statement are tested
 abbrev pub tested_of : List ℕ → List Handle
 tested_of bytes = parts_tested (parts_of bytes)
+
+-- the handles in one field of a record, the first field being 0
+abbrev pub field_in : List Field → ℕ → List ℕ → List Handle
+field_in [] k bytes = []
+field_in (f ∷ fs) zero bytes = field_handles f bytes
+field_in (f ∷ fs) (suc k) bytes = field_in fs k (drop (width_of f) bytes)
+
+abbrev pub parts_field : Result (Kind × List ℕ) Flaw → ℕ → List Handle
+parts_field (Ok p) k = field_in (layout p.0) k p.1
+parts_field (Err e) k = []
+
+abbrev pub field_of : List ℕ → ℕ → List Handle
+field_of bytes k = parts_field (parts_of bytes) k

@@ -1,1 +1,4 @@
+pub mod Passing
 pub mod Firsts
+pub mod Once
+pub mod Verdict

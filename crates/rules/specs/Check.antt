@@ -1,5 +1,5 @@
 -- check: the tests of a module, in order.
-use Rattle.std.specs.Prelude.{ℕ, suc, cond, List, [], ◌∷◌, ◌++◌, map, length, take, drop, Some, None, filter, Option}
+use Rattle.std.specs.Prelude.{ℕ, suc, cond, List, [], ◌∷◌, ◌++◌, map, take, drop, Some, None, filter, Option}
 use Rattle.std.specs.List.{flat_map}
 use Rattle.std.specs.Option.{option_to_list}
 use Rattle.ir.specs.declared.handle.Table.TheVariants as table
@@ -10,6 +10,7 @@ use Rattle.records.specs.Handles.{handles_of, tested_of}
 use Rattle.records.specs.Record.{number}
 use Rattle.rules.specs.declared.faults.Rule.TheVariants as rule
 use Rattle.rules.specs.declared.faults.Fault.{Fault}
+use Rattle.rules.specs.declared.sizes.Sizes.{Sizes}
 use Rattle.rules.specs.Module.{Item, Body, Module}
 use Rattle.rules.specs.Kinds.{Constant, Override, Compose, Emit, ImageAtomic, Call, is, makes_value}
 use Rattle.rules.specs.Sizes.{sizes, sizes_in}
@@ -66,32 +67,38 @@ base_tests t i = map (earlier rule.Earlier table.Types t i.place) (numbers table
 abbrev pub type_tests : Module → ℕ → Item → List Test
 type_tests m t i = base_tests t i ++ flat_map (pending_tests m t i.place) (pending_of i)
 
--- the function g that is named in the function f is earlier than f
-abbrev pub callee_tests : Body → Option ℕ → ℕ → List Test
-callee_tests b f g = map (λ caller. earlier rule.Earlier table.Functions caller b.opener.place g) (option_to_list f)
+-- the function g that is named in the function f, which stands at a place, is earlier than f
+abbrev pub callee_tests : ℕ → Option ℕ → ℕ → List Test
+callee_tests place f g = map (λ caller. earlier rule.Earlier table.Functions caller place g) (option_to_list f)
 
--- a handle of an expression of the function f, or of an entry point, that names no expression: it is inside;
--- of the types only those of a ZeroValue and a Compose are tested
-abbrev pub named_tests : Module → Body → Option ℕ → Item → Handle → List Test
-named_tests m b f i (handle.Type h) = cond (makes_value i) (inside rule.Inside (sizes_in m b) i.place (handle.Type h) ∷ []) []
-named_tests m b f i (handle.Expression h) = []
-named_tests m b f i (handle.Function h) = inside rule.Inside (sizes_in m b) i.place (handle.Function h) ∷ callee_tests b f h.index
-named_tests m b f i h = inside rule.Inside (sizes_in m b) i.place h ∷ []
+-- a handle of an expression of the function f, which stands at a place, or of an entry point, that names no expression:
+-- it is inside; of the types only those of a ZeroValue and a Compose are tested
+abbrev pub named_tests : Sizes → ℕ → Option ℕ → Item → Handle → List Test
+named_tests sizes place f i (handle.Type h) = cond (makes_value i) (inside rule.Inside sizes i.place (handle.Type h) ∷ []) []
+named_tests sizes place f i (handle.Expression h) = []
+named_tests sizes place f i (handle.Function h) = inside rule.Inside sizes i.place (handle.Function h) ∷ callee_tests place f h.index
+named_tests sizes place f i h = inside rule.Inside sizes i.place h ∷ []
 
 -- the operands of the expression n are earlier
 abbrev pub operand_tests : ℕ → Item → List Test
 operand_tests n i = map (earlier rule.Earlier table.Expressions n i.place) (numbers table.Expressions (handles i))
 
--- the expression n of the function f, or of an entry point: what it names is inside, its operands are earlier
-abbrev pub expression_tests : Module → Body → Option ℕ → ℕ → Item → List Test
-expression_tests m b f n i = flat_map (named_tests m b f i) (handles_of i.bytes) ++ operand_tests n i
+-- the expression n of the function f, which stands at a place, or of an entry point: what it names is inside, its operands
+-- are earlier
+abbrev pub expression_tests : Sizes → ℕ → Option ℕ → ℕ → Item → List Test
+expression_tests sizes place f n i = flat_map (named_tests sizes place f i) (handles_of i.bytes) ++ operand_tests n i
+
+-- of a Call: function, operands, result
+abbrev pub call_handles : Item → List Handle
+call_handles s = fields (0 ∷ []) s ++ (flat_map handles_of s.taken ++ fields (1 ∷ []) s)
+
+-- of an ImageAtomic: image, coordinate, array index, value; not what it compares with
+abbrev pub image_atomic_handles : Item → List Handle
+image_atomic_handles s = fields (0 ∷ 1 ∷ 2 ∷ 4 ∷ []) s
 
 -- the handles of a statement in the order of their tests
 abbrev pub tested : Item → List Handle
-tested s =
-    cond (is Call s) (fields (0 ∷ []) s ++ (flat_map handles_of s.taken ++ fields (1 ∷ []) s))  -- function, operands, result
-    (cond (is ImageAtomic s) (fields (0 ∷ 1 ∷ 2 ∷ 4 ∷ []) s)  -- image, coordinate, array index, value; not what it compares with
-    (tested_of s.bytes))
+tested s = cond (is Call s) (call_handles s) (cond (is ImageAtomic s) (image_atomic_handles s) (tested_of s.bytes))
 
 -- the start and the end of an Emit
 abbrev pub start_of : Item → ℕ
@@ -101,25 +108,25 @@ abbrev pub end_of : Item → ℕ
 end_of s = number (drop 5 s.bytes)
 
 -- a statement, or the record that closes a block: the range of an Emit, or handles
-abbrev pub statement_tests : Module → Body → Item → List Test
-statement_tests m b s =
-    cond (is Emit s) (range (length b.expressions) s.place (start_of s) (end_of s) ∷ [])
-    (all_inside rule.Inside (sizes_in m b) s.place (tested s))
+abbrev pub statement_tests : Sizes → Item → List Test
+statement_tests sizes s =
+    cond (is Emit s) (range sizes.expressions s.place (start_of s) (end_of s) ∷ [])
+    (all_inside rule.Inside sizes s.place (tested s))
 
 -- the leaf of a body
 abbrev pub body_leaf : Item → List Handle
 body_leaf o = filter (is_of table.Filters) (handles_of o.bytes)
 
--- a function f, or an entry point
-abbrev pub body_tests : Module → Option ℕ → Body → List Test
-body_tests m f b =
-    flat_map (own_inside rule.Inside (sizes_in m b)) b.arguments
-    ++ (flat_map (own_inside rule.Inside (sizes_in m b)) (option_to_list b.result)
-    ++ (flat_map (own_inside rule.Inside (sizes_in m b)) b.locals
-    ++ (flat_map (own_inside rule.Inside (sizes_in m b)) b.named
-    ++ (numbered (expression_tests m b f) b.expressions
-    ++ (flat_map (statement_tests m b) b.statements
-    ++ all_inside rule.Inside (sizes m) b.opener.place (body_leaf b.opener))))))
+-- a function f, or an entry point, in a module with tables of these sizes
+abbrev pub body_tests : Sizes → Option ℕ → Body → List Test
+body_tests sizes f b =
+    flat_map (own_inside rule.Inside (sizes_in sizes b)) b.arguments
+    ++ (flat_map (own_inside rule.Inside (sizes_in sizes b)) (option_to_list b.result)
+    ++ (flat_map (own_inside rule.Inside (sizes_in sizes b)) b.locals
+    ++ (flat_map (own_inside rule.Inside (sizes_in sizes b)) b.named
+    ++ (numbered (expression_tests (sizes_in sizes b) b.opener.place f) b.expressions
+    ++ (flat_map (statement_tests (sizes_in sizes b)) b.statements
+    ++ all_inside rule.Inside sizes b.opener.place (body_leaf b.opener))))))
 
 -- of an entry point's record: three sizes, task payload; output variable, vertex type, primitive type and two overrides of the mesh
 abbrev pub entry_handles : Item → List Handle
@@ -129,12 +136,12 @@ entry_handles o =
     ++ (filter (is_of table.Types) (fields (8 ∷ []) o)
     ++ filter (is_of table.Expressions) (fields (8 ∷ []) o)))
 
-abbrev pub entry_tests : Module → Body → List Test
-entry_tests m b = body_tests m None b ++ all_inside rule.Inside (sizes m) b.opener.place (entry_handles b.opener)
+abbrev pub entry_tests : Sizes → Body → List Test
+entry_tests sizes b = body_tests sizes None b ++ all_inside rule.Inside sizes b.opener.place (entry_handles b.opener)
 
 -- ray_desc, ray_intersection, ray_vertex_return
-abbrev pub special_tests : Module → Item → List Test
-special_tests m i = all_inside rule.Inside (sizes m) i.place (fields (0 ∷ 1 ∷ 2 ∷ []) i)
+abbrev pub special_tests : Sizes → Item → List Test
+special_tests sizes i = all_inside rule.Inside sizes i.place (fields (0 ∷ 1 ∷ 2 ∷ []) i)
 
 -- a filter's parent is earlier
 abbrev pub filter_tests : ℕ → Item → List Test
@@ -146,9 +153,9 @@ later_tests m =
     flat_map (own_inside rule.Inside (sizes m)) m.constants
     ++ (flat_map (own_inside rule.Inside (sizes m)) m.overrides
     ++ (flat_map (own_inside rule.Inside (sizes m)) m.globals
-    ++ (flat_map (entry_tests m) m.entries
-    ++ (numbered (λ f. body_tests m (Some f)) m.functions
-    ++ (flat_map (special_tests m) (option_to_list m.special)
+    ++ (flat_map (entry_tests (sizes m)) m.entries
+    ++ (numbered (λ f. body_tests (sizes m) (Some f)) m.functions
+    ++ (flat_map (special_tests (sizes m)) (option_to_list m.special)
     ++ (numbered filter_tests m.filters
     ++ flat_map (own_inside rule.Inside (sizes m)) (option_to_list m.leaf)))))))
 

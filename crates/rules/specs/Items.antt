@@ -5,8 +5,7 @@ use Rattle.ir.specs.declared.handle.Table.{Table}
 use Rattle.ir.specs.declared.handle.Table.TheVariants as table
 use Rattle.ir.specs.declared.handle.Handle.{Handle}
 use Rattle.ir.specs.Handle.{table_of, index_of}
-use Rattle.records.specs.Handles.{handles_of}
-use Rattle.handles.specs.Handles.{field_of}
+use Rattle.records.specs.Handles.{handles_of, field_of}
 use Rattle.rules.specs.Module.{Item}
 
 -- the handles of an item: its own, and then those of the records that it took

@@ -15,6 +15,9 @@ ZeroValue = 67
 abbrev pub Compose : ℕ
 Compose = 68
 
+abbrev pub CallResult : ℕ
+CallResult = 87
+
 -- statements
 abbrev pub Emit : ℕ
 Emit = 128

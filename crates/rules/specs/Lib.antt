@@ -6,3 +6,4 @@ pub mod Fault
 pub mod Firsts
 pub mod Check
 pub mod Once
+pub mod Verdict

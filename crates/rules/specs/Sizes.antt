@@ -30,15 +30,6 @@ sizes m = record {
   filters = length m.filters;
 }
 
--- for what stands in a body, which has expressions and local variables of its own
-abbrev pub sizes_in : Module → Body → Sizes
-sizes_in m b = record {
-  types = length m.types;
-  constants = length m.constants;
-  overrides = length m.overrides;
-  global_variables = length m.globals;
-  local_variables = length b.locals;
-  expressions = length b.expressions;
-  functions = length m.functions;
-  filters = length m.filters;
-}
+-- for what stands in a body of a module with tables of these sizes: a body has expressions and local variables of its own
+abbrev pub sizes_in : Sizes → Body → Sizes
+sizes_in sizes b = record sizes { local_variables = length b.locals; expressions = length b.expressions }

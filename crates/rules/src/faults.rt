@@ -1,6 +1,6 @@
 //! What a failed test is reported as.
 ghost use Rattle.std.specs.Prelude.{◌≡◌};
-ghost use Rattle.rules.specs.Fault.{rule_number};
+ghost use Rattle.rules.specs.Fault.{rule_number, kind_number, refusal_number, refusal_kind, refusal_first, refusal_second, refusal_place};
 
 /// The rules that are tested, under the numbers of their refusals.
 #[derive(Clone, Copy, PartialEq, Eq, Debug)]
@@ -27,15 +27,24 @@ impl Rule {
 // Beside `Table`: arguments are counted and have no table, and entry points are counted as functions.
 #[derive(Clone, Copy, PartialEq, Eq, Debug)]
 pub enum FaultKind {
-    Type,
-    Constant,
-    Override,
-    GlobalVariable,
-    LocalVariable,
-    Expression,
-    Function,
-    Argument,
-    DiagnosticFilterNode,
+    Type = 1,
+    Constant = 2,
+    Override = 3,
+    GlobalVariable = 4,
+    LocalVariable = 5,
+    Expression = 6,
+    Function = 7,
+    Argument = 8,
+    DiagnosticFilterNode = 9,
+}
+
+impl FaultKind {
+    /// The number of the kind.
+    pub fn number(self) -> u8
+        ensures { result ≡ kind_number self }
+    {
+        self as u8
+    }
 }
 
 /// A failed test: the rule, what its numbers count, the two numbers, and the place among the kept
@@ -45,8 +54,8 @@ pub enum FaultKind {
 pub struct Fault {
     pub rule: Rule,
     pub kind: FaultKind,
-    pub first: u32,
-    pub second: u32,
+    pub first: usize,
+    pub second: usize,
     pub place: usize,
 }
 
@@ -57,4 +66,56 @@ pub enum Rejection {
     /// A function is open or records wait.
     Unfinished,
     Faulty(Fault),
+}
+
+impl Rejection {
+    /// The number of the refusal.
+    pub fn number(self) -> u8
+        ensures { result ≡ refusal_number self }
+    {
+        match self {
+            Rejection::Unfinished => 7,
+            Rejection::Faulty(fault) => fault.rule.number(),
+        }
+    }
+
+    /// What the numbers of a fault count, by its number; 0 where there is no fault.
+    pub fn kind(self) -> u8
+        ensures { result ≡ refusal_kind self }
+    {
+        match self {
+            Rejection::Unfinished => 0,
+            Rejection::Faulty(fault) => fault.kind.number(),
+        }
+    }
+
+    /// The first number of a fault, or 0.
+    pub fn first(self) -> usize
+        ensures { result ≡ refusal_first self }
+    {
+        match self {
+            Rejection::Unfinished => 0,
+            Rejection::Faulty(fault) => fault.first,
+        }
+    }
+
+    /// The second number of a fault, or 0.
+    pub fn second(self) -> usize
+        ensures { result ≡ refusal_second self }
+    {
+        match self {
+            Rejection::Unfinished => 0,
+            Rejection::Faulty(fault) => fault.second,
+        }
+    }
+
+    /// The place of the record under test among the kept records, or 0.
+    pub fn place(self) -> usize
+        ensures { result ≡ refusal_place self }
+    {
+        match self {
+            Rejection::Unfinished => 0,
+            Rejection::Faulty(fault) => fault.place,
+        }
+    }
 }

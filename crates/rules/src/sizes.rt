@@ -8,19 +8,19 @@ use ir::handle::Table;
 // Beside `Lengths` of the drafts: this goes by the tables of handles, that one by the tables of slots, which count a body's expressions apart.
 #[derive(Clone, Copy, PartialEq, Eq, Debug)]
 pub struct Sizes {
-    pub types: u32,
-    pub constants: u32,
-    pub overrides: u32,
-    pub global_variables: u32,
-    pub local_variables: u32,
-    pub expressions: u32,
-    pub functions: u32,
-    pub filters: u32,
+    pub types: usize,
+    pub constants: usize,
+    pub overrides: usize,
+    pub global_variables: usize,
+    pub local_variables: usize,
+    pub expressions: usize,
+    pub functions: usize,
+    pub filters: usize,
 }
 
 impl Sizes {
     /// How many items a table has; no handle names an entry point.
-    pub fn of(self, table: Table) -> u32
+    pub fn of(self, table: Table) -> usize
         ensures { result ≡ size_in self table }
     {
         match table {

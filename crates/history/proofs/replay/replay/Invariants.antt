@@ -1,6 +1,6 @@
-use Rattle.std.proofs.Common.{◌≡◌, [], ◌++◌, map, length, take, drop}
+use Rattle.std.proofs.Common.{◌≡◌, [], ◌++◌, length, take, drop}
 use Rattle.arena.specs.Memory.{Stands, records}
-use Rattle.history.specs.Calls.{record_of, outcomes}
+use Rattle.history.specs.Calls.{puts_of, outcomes}
 use Rattle.history.specs.Runs.{run}
 use Rattle.history.proofs.replay.replay.Given as goal
 
@@ -8,5 +8,5 @@ use Rattle.history.proofs.replay.replay.Given as goal
 abbrev pub invariant-loop-place : goal.invariant-loop-place
 invariant-loop-place l =
     Stands l.draft l.bytes l.slots ×
-    (l.answers ≡ outcomes (length l.initial.bytes) (length l.initial.slots) [] (map record_of (take l.place l.calls)) ++ drop l.place l.initial.answers) ×
-    (records l.draft l.bytes l.slots ≡ run (length l.initial.bytes) (length l.initial.slots) [] (map record_of (take l.place l.calls)))
+    (l.answers ≡ outcomes (length l.initial.bytes) (length l.initial.slots) [] (take l.place l.calls) ++ drop l.place l.initial.answers) ×
+    (records l.draft l.bytes l.slots ≡ run (length l.initial.bytes) (length l.initial.slots) [] (puts_of (take l.place l.calls)))

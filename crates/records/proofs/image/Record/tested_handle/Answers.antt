@@ -1,20 +1,13 @@
-use Rattle.std.proofs.Common.{ap, ◌∙◌}
-use Rattle.records.proofs.Swapping.{same_handles, tested_at, tested_plain, tested_none_of}
-use Rattle.std.specs.List.{slice_get}
+use Rattle.std.proofs.Common.{sym, ◌∙◌}
+use Rattle.std.proofs.lemmas.Iterator.Adapters.{option_map_id}
+use Rattle.std.proofs.lemmas.Iterator.Consumers.{nth_from_yields_List, YieldsList-from_first}
+use Rattle.records.specs.Gathered.{handles_left}
 use Rattle.records.proofs.image.Record.tested_handle.Goals as goal
-use Rattle.records.proofs.image.Record.tested_handle.Goals.{in_default-via-in-Ok+else-second_first, in_default-via-in_default}
 
-pub returns-in-Ok : goal.returns-in-Ok
-returns-in-Ok c = record {
-  place = tested_at c.args.self.bytes.now _ _ c.in-Ok.ensures c.if-second_first.ensures c.nth_second_first.ensures;
-  same = same_handles c.args.self.bytes.now;
-}
-
-pub returns-in_default : goal.returns-in_default
-returns-in_default c = record {
-  place = c.handle.ensures ∙ ap (λ hs. slice_get hs c.args.place) (elim c.in_default.branch [
-    | in_default-via-in-Ok+else-second_first w ↦ tested_plain c.args.self.bytes.now _ w.in-Ok.ensures w.if-second_first.ensures
-    | in_default-via-in_default w ↦ tested_none_of c.args.self.bytes.now _ w.in_default.ensures
-  ]);
-  same = same_handles c.args.self.bytes.now;
+pub returns : goal.returns
+returns c = record {
+  place =
+      sym (option_map_id _) ∙
+      nth_from_yields_List c.nth.result c.nth.new.self _ c.nth.ensures.ran (YieldsList-from_first (λ x. x) handles_left _ c.tested_handles.ensures.order);
+  same = c.tested_handles.ensures.same;
 }

@@ -1,2 +1,0 @@
-//! Definitions of the handles in a field of a record.
-#![tactic(auto)]

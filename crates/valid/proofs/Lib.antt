@@ -1,0 +1,4 @@
+pub mod Tables
+pub mod Waiting
+pub mod Typed
+pub mod Checked

@@ -1,0 +1,3 @@
+pub mod Module
+pub mod Unmet
+pub mod Check
