@@ -88,12 +88,14 @@ impl<W: Write> Reporter<'_, W> {
 
     /// Shows what the draft has come to.
     fn show_end<D: AnyDraft>(&mut self, draft: &D) -> io::Result<()> {
+        let view = draft.view();
+        let answer = verdict::Plain::of(view);
         if self.options.plain {
-            return writeln!(self.out, "{}", verdict::Plain::of(draft.view()));
+            return writeln!(self.out, "{answer}");
         }
         write!(self.out, "{}", Totals(draft.counts()))?;
-        show_names(self.out, draft.view())?;
-        writeln!(self.out, "{}", verdict::Full::of(draft.view()))
+        show_names(self.out, view)?;
+        writeln!(self.out, "{}", verdict::Full::of(answer, view))
     }
 
     /// Puts each record of an image into a new draft and shows what it answered, up to the first that
@@ -139,11 +141,12 @@ impl<W: Write> Reporter<'_, W> {
                 return Ok(false);
             }
         }
-        let answer = verdict::Plain::of(draft.view());
+        let view = draft.view();
+        let answer = verdict::Plain::of(view);
         if self.options.plain {
             writeln!(self.out, "{name}: {answer}")?;
         } else {
-            writeln!(self.out, "{name}: {}", verdict::Full::of(draft.view()))?;
+            writeln!(self.out, "{name}: {}", verdict::Full::of(answer, view))?;
         }
         Ok(answer.is_passed())
     }

@@ -91,23 +91,21 @@ impl Display for Failed<'_> {
 /// The answer in words.
 #[derive(Clone, Copy)]
 pub struct Full<'a> {
-    answer: Result<(), Rejection>,
+    answer: Plain,
     view: View<'a>,
 }
 
 impl<'a> Full<'a> {
-    /// That of a draft.
-    pub fn of(view: View<'a>) -> Full<'a> {
-        Full {
-            answer: check(view),
-            view,
-        }
+    /// Those of an answer to the draft that is viewed.
+    pub fn of(answer: Plain, view: View<'a>) -> Full<'a> {
+        Full { answer, view }
     }
 }
 
 impl Display for Full<'_> {
     fn fmt<W: fmt::Write>(&self, f: &mut fmt::Formatter<W>) -> fmt::Result {
-        match self.answer {
+        let Plain(answer) = self.answer;
+        match answer {
             Ok(()) => f.write_str("check passed"),
             Err(rejection) => {
                 write!(f, "check refused {}: ", rejection.number())?;
