@@ -30,7 +30,7 @@ use rules::sizes::Sizes;
 const MESH: usize = 8;
 
 /// How many items a body's handles can name, in a module with tables of these sizes.
-fn inner_sizes(body: Body<'_>, sizes: Sizes) -> Sizes
+pub fn inner_sizes(body: Body<'_>, sizes: Sizes) -> Sizes
     ensures { result ≡ sizes_in sizes (shown_body body.entry) }
 {
     let local_variables = body
@@ -47,7 +47,7 @@ fn inner_sizes(body: Body<'_>, sizes: Sizes) -> Sizes
 }
 
 /// The handles of one table, among those of a record at a place, are inside.
-fn check_table(
+pub fn check_table(
     handles: Handles<'_>,
     table: Table,
     sizes: Sizes,

@@ -79,10 +79,10 @@ table_is table.EntryPoints h = table_told handles.EntryPoints table.EntryPoints 
 table_is t h = absurd cc
 
 -- of the lists that no table numbers
-special_told : (m : List Record) → Accepted start m → (state m).built.special ≡ last_of (items_of (Kinds 6 6) m)
+pub special_told : (m : List Record) → Accepted start m → (state m).built.special ≡ last_of (items_of (Kinds 6 6) m)
 special_told = told_so (λ s. s.built.special) last_of (Kinds 6 6) (λ s r k xs ad e. ap (λ u. u.0) (unnumbered_at s.built s.body (item_of s r) k s.opened) ∙ ap (λ o. later (wanted (Kinds 6 6) s.opened k) o (item_of s r)) e ∙ sym (last_grown (wanted (Kinds 6 6) s.opened k) xs (item_of s r))) refl
 
-predeclared_told : (m : List Record) → Accepted start m → (state m).built.predeclared ≡ items_of (Kinds 7 7) m
+pub predeclared_told : (m : List Record) → Accepted start m → (state m).built.predeclared ≡ items_of (Kinds 7 7) m
 predeclared_told = told_so (λ s. s.built.predeclared) (λ xs. xs) (Kinds 7 7) (λ s r k xs ad e. ap (λ u. u.1) (unnumbered_at s.built s.body (item_of s r) k s.opened) ∙ ap (λ l. grown (wanted (Kinds 7 7) s.opened k) l (item_of s r)) e) refl
 
 leaf_told : (m : List Record) → Accepted start m → (state m).built.leaf ≡ last_of (items_of (Kinds 9 9) m)

@@ -76,9 +76,12 @@ impl Display for Failed<'_> {
         } = self.fault;
         let counted = Counted(kind);
         match rule {
-            Rule::Inside => write!(f, "{counted} {first} is not inside")?,
-            Rule::Earlier => write!(f, "{counted} {second} is not earlier than {first}")?,
+            Rule::Inside | Rule::SealedInside => write!(f, "{counted} {first} is not inside")?,
+            Rule::Earlier | Rule::SealedEarlier => {
+                write!(f, "{counted} {second} is not earlier than {first}")?
+            }
             Rule::Range => write!(f, "the range {first}..{second} is not inside")?,
+            Rule::Placed => write!(f, "{counted} {first} may not stand there")?,
         }
         write!(f, ", kept record {place}")?;
         match self.record.map(|bytes| Record { bytes }.parts()) {

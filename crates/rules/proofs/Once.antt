@@ -17,20 +17,20 @@ use Rattle.rules.proofs.Passing.{hold_from_none, hold_left, hold_right, hold_eac
 use Rattle.rules.proofs.Firsts.{then_same, after_same, each_same, skip_front}
 
 module _ {X : Type 0} where
-  get_take : (xs : List X) (n k : ℕ) (x : X) → slice_get xs k ≡ Some x → k < n → slice_get (take n xs) k ≡ Some x
+  pub get_take : (xs : List X) (n k : ℕ) (x : X) → slice_get xs k ≡ Some x → k < n → slice_get (take n xs) k ≡ Some x
   get_take [] n k x s l = absurd cc
   get_take (y ∷ xs) zero k x s l = absurd (omega arith)
   get_take (y ∷ xs) (suc n) zero x s l = s
   get_take (y ∷ xs) (suc n) (suc k) x s l = get_take xs n k x s (omega arith)
 
-  get_from_take : (n : ℕ) (xs : List X) (k : ℕ) (x : X) → slice_get (take n xs) k ≡ Some x → slice_get xs k ≡ Some x
+  pub get_from_take : (n : ℕ) (xs : List X) (k : ℕ) (x : X) → slice_get (take n xs) k ≡ Some x → slice_get xs k ≡ Some x
   get_from_take zero xs k x s = absurd cc
   get_from_take (suc n) [] k x s = s
   get_from_take (suc n) (y ∷ xs) zero x s = s
   get_from_take (suc n) (y ∷ xs) (suc k) x s = get_from_take n xs k x s
 
 -- what holds of each item and of what it gives
-all_flat : {X Y : Type 0} (P : Y → Type 0) (f : X → List Y) (xs : List X) → AllByRecursion (λ x. AllByRecursion P (f x)) xs → AllByRecursion P (flat_map f xs)
+pub all_flat : {X Y : Type 0} (P : Y → Type 0) (f : X → List Y) (xs : List X) → AllByRecursion (λ x. AllByRecursion P (f x)) xs → AllByRecursion P (flat_map f xs)
 all_flat P f [] h = tt
 all_flat P f (x ∷ xs) h = All-append P (f x) (flat_map f xs) h.0 (all_flat P f xs h.1)
 

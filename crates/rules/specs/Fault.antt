@@ -21,6 +21,9 @@ abbrev pub rule_number : Rule → ℕ
 rule_number rule.Inside = 8
 rule_number rule.Earlier = 9
 rule_number rule.Range = 10
+rule_number rule.Placed = 11
+rule_number rule.SealedInside = 12
+rule_number rule.SealedEarlier = 13
 
 -- the number of each kind of fault
 abbrev pub kind_number : FaultKind → ℕ

@@ -11,6 +11,12 @@ pub enum Rule {
     Earlier = 9,
     /// A range of expressions is empty, or starts before its end and ends inside.
     Range = 10,
+    /// A global expression is of a kind that can stand there, which only sealing tests.
+    Placed = 11,
+    /// As `Inside`, where only sealing tests it.
+    SealedInside = 12,
+    /// As `Earlier`, where only sealing tests it.
+    SealedEarlier = 13,
 }
 
 impl Rule {

@@ -27,7 +27,7 @@ const ZERO_VALUE: u8 = 67;
 const COMPOSE: u8 = 68;
 
 /// The number that the first handle of a table names in an item's own record, if it has one.
-pub(crate) fn own(item: Item<'_>, table: Table) -> Option<u32>
+pub fn own(item: Item<'_>, table: Table) -> Option<u32>
     ensures { option_to_list result ≡ own table (shown item.entry) }
 {
     for handle in item.record.handles() {

@@ -3,11 +3,11 @@
 
 mod bodies;
 pub mod check;
-mod constants;
+pub mod constants;
 mod filters;
 pub mod module;
 mod sizes;
 #[cfg(test)]
 mod tests;
 mod types;
-mod unmet;
+pub mod unmet;

@@ -17,7 +17,7 @@ use rules::sizes::Sizes;
 /// A view of a draft in which no function is open, and how many items each table has.
 #[derive(Clone, Copy)]
 pub struct Module<'a> {
-    pub(crate) view: View<'a>,
+    pub view: View<'a>,
     pub sizes: Sizes,
     pub ghost ended: { (state (viewed view)).opened ≡ None },
     pub ghost sized: { sizes ≡ sizes_of (module_of (viewed view)) },

@@ -4,7 +4,7 @@ use items::items::Items;
 /// The global expressions that no type has met, and the number of the first.
 // What naga has as a peekable iterator.
 #[derive(Clone, Copy)]
-pub(crate) struct Unmet<'a> {
-    pub(crate) left: Items<'a>,
-    pub(crate) first: usize,
+pub struct Unmet<'a> {
+    pub left: Items<'a>,
+    pub first: usize,
 }

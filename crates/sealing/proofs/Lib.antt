@@ -1,0 +1,5 @@
+pub mod Once
+pub mod Promised
+pub mod FieldTables
+pub mod Faults
+pub mod Kinded

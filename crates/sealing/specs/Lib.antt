@@ -1,0 +1,4 @@
+pub mod Seal
+pub mod Once
+pub mod Faults
+pub mod Promised
