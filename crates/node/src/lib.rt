@@ -3,3 +3,4 @@
 
 pub mod earlier;
 pub mod table;
+pub mod total;

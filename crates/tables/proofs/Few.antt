@@ -37,7 +37,7 @@ body_few (Some k) body =
       | inr other ↦ rw (ne_eqb (length body) (size_of (layout k)) other) (omega arith)
     ]
 
-record_few : (bytes : Record) → length (handles_of bytes) ≤ length bytes
+pub record_few : (bytes : Record) → length (handles_of bytes) ≤ length bytes
 record_few [] = omega arith
 record_few (byte ∷ body) = omega (arith, body_few (kind_of byte) body)
 
@@ -54,7 +54,7 @@ kept_one : (b : Bool) (i : Item) (items : List Item) (n : ℕ) → length (image
 kept_one true i items n l = omega (arith, length-append i.bytes (image (map (λ j. j.bytes) items)))
 kept_one false i items n l = omega arith
 
-gained_within : (k : ℕ) (sec : Section) (s : State) (rs : List Record) → length (image (records_of k (gained sec s rs))) ≤ length (image rs)
+pub gained_within : (k : ℕ) (sec : Section) (s : State) (rs : List Record) → length (image (records_of k (gained sec s rs))) ≤ length (image rs)
 gained_within k sec s [] = omega arith
 gained_within k sec s (r ∷ rs) =
     let later = gained_within k sec (step s r) rs in
@@ -68,7 +68,7 @@ gained_within k sec s (r ∷ rs) =
     ]
 
 -- the records in front and those behind them
-parts_few : (n : ℕ) (m : List Record) → length (image (take n m)) + length (image (drop n m)) ≡ length (image m)
+pub parts_few : (n : ℕ) (m : List Record) → length (image (take n m)) + length (image (drop n m)) ≡ length (image m)
 parts_few n m =
     sym (length-append (image (take n m)) (image (drop n m)))
     ∙ ap length (sym (flat_map-append (λ (r : Record). r) (take n m) (drop n m)))
