@@ -1,4 +1,4 @@
--- The functions call no more functions in all than there are bytes in twice the kept records.
+-- The functions call no more functions in all than twice the bytes of the kept records.
 use Rattle.std.proofs.Common.{◌≡◌, ℕ, suc, ◌+◌, ◌≤◌, Bool, true, false, not, cond, List, [], ◌∷◌, length, take, drop, Some, None, sum_by, Option, sym, refl, ap, ◌∙◌, subst, arith, length-append}
 use Rattle.std.specs.List.{prefix_len}
 use Rattle.std.proofs.lemmas.List.{drop-take, take_all}
@@ -22,10 +22,11 @@ use Rattle.tables.proofs.Few.{gained_within, parts_few, both_few}
 use Rattle.tables.proofs.Going.{behind}
 use Rattle.tables.proofs.Made.{made, met}
 
--- the length of what stands behind the end of an open body
+-- how many of these records stand before one that ends a body
 abbrev inside : List Record → ℕ
 inside rs = prefix_len (λ r. not (ends r)) rs
 
+-- those that are not in the open body
 abbrev ahead : Option BodyKind → List Record → List Record
 ahead None rs = rs
 ahead (Some x) rs = drop (inside rs) rs
@@ -37,10 +38,7 @@ ahead_within : (o : Option BodyKind) (rs : List Record) → twice (ahead o rs) �
 ahead_within None rs = omega arith
 ahead_within (Some x) rs = omega (arith, parts_few (inside rs) rs)
 
--- a record inside of an open body, and one that ends it
-inside_next : (r : Record) (rs : List Record) → inside (r ∷ rs) ≡ cond (not (ends r)) (1 + inside rs) 0
-inside_next r rs = refl
-
+-- a record that ends no body, and one that does
 ahead_next : (o : Option BodyKind) (r : Record) (rs : List Record) → ends r ≡ false → twice (ahead o rs) ≤ twice (ahead o (r ∷ rs))
 ahead_next None r rs e = omega (arith, length-append r (image rs))
 ahead_next (Some x) r rs e =
@@ -68,6 +66,11 @@ module _ (m : List Record) where
       let n = inside (drop x m) in
       let few = both_few table.Functions [] (records_of 87 (body_of m i).expressions) (records_of 144 (body_of m i).statements) (length (image (take n (drop x m)))) refl (part 87 _ x n) (part 144 _ x n) in
       omega (arith, few, ap (λ l. twice (take (inside l) l)) e)
+
+  pub calls_within : (i : Item) → calls i ≤ twice m
+  calls_within i =
+      let rs = drop (suc i.place) m in
+      omega (arith, calls_few i rs refl, parts_few (inside rs) rs, parts_few (suc i.place) m)
 
   module _ (s : State) (r : Record) (rs : List Record) (k : Kind) (e : ends r ≡ finishes k) (after : drop (suc s.kept) m ≡ rs) (rest : List Item) where
     abbrev Counted : Option BodyKind → Type 0

@@ -27,7 +27,7 @@ nodes_all s (i ∷ items) =
 
 module _ (v : View) where
   -- what a view shows was lent
-  lent : length (image (viewed v)) ≤ length v.bytes.now
+  pub lent : length (image (viewed v)) ≤ length v.bytes.now
   lent = omega (arith, length-take v.draft.now.counts.used v.bytes.now, ap length v.stands.bytes_are)
 
   -- the operands of a table of handles, and the functions that are called
