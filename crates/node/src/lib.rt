@@ -3,4 +3,3 @@
 
 pub mod earlier;
 pub mod table;
-pub mod total;
