@@ -1,5 +1,5 @@
 -- What a node table means: a list of nodes.
-use Rattle.std.specs.Prelude.{ℕ, List, [], Some, None, Option}
+use Rattle.std.specs.Prelude.{ℕ, List, [], length, Some, None, sum_by, Option}
 use Rattle.std.specs.List.{slice_get}
 
 -- an item: its record, and the numbers of the items that it takes
@@ -18,3 +18,7 @@ operands_at nodes item = operands_in (slice_get nodes item)
 -- the operand at a place
 abbrev pub operand_of : List Node → ℕ → ℕ → Option ℕ
 operand_of nodes item place = slice_get (operands_at nodes item) place
+
+-- how many operands the items have in all
+abbrev pub operands_in_all : List Node → ℕ
+operands_in_all nodes = sum_by (λ n. length n.operands) nodes

@@ -1,14 +1,17 @@
 //! What every node table answers.
-ghost use Rattle.std.specs.Prelude.{◌≡◌, List, length, Some, None, MatchOption};
+ghost use Rattle.std.specs.Prelude.{◌≡◌, ◌^◌, ◌<◌, List, length, Some, None, MatchOption};
 ghost use Rattle.std.specs.List.{slice_get};
 ghost use Rattle.std.specs.Option.{option_map};
-ghost use Rattle.node.specs.Nodes.{Node, operand_of, operands_at};
+ghost use Rattle.node.specs.Nodes.{Node, operand_of, operands_at, operands_in_all};
 
 /// Items that are numbered from 0, each with its record and the numbers of the items that it takes, its
 /// operands.
 // The calls move a cursor: a table keeps where it last looked, and its nodes stay the same.
 pub trait NodeTable<'a> {
     ghost nodes: { Self → List Node };
+
+    // So few that a `usize` counts them all.
+    ghost few: { (table : Self) → operands_in_all (nodes table) < 2 ^ 64 };
 
     /// How many items it has.
     fn count(&self) -> usize

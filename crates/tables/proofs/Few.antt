@@ -11,17 +11,15 @@ use Rattle.ir.specs.Layout.{layout, size_of}
 use Rattle.ir.specs.Number.{kind_of}
 use Rattle.records.specs.Record.{body_of}
 use Rattle.records.specs.Handles.{parts_handles, handles_of}
-use Rattle.records.specs.Image.{split}
-use Rattle.records.proofs.Cutting.{joined_split}
 use Rattle.records.proofs.Few.{fields_few}
 use Rattle.rules.specs.Module.{Record, Item}
 use Rattle.rules.specs.Kinds.{is}
 use Rattle.rules.specs.Items.{is_of, numbers}
-use Rattle.draft.specs.State.{State, step, state, item_of}
+use Rattle.draft.specs.State.{State, step, item_of}
 use Rattle.draft.specs.Admitted.{image}
 use Rattle.items.specs.declared.section.Section.{Section}
 use Rattle.items.specs.Sections.{selects}
-use Rattle.items.specs.Between.{gained, items_between}
+use Rattle.items.specs.Between.{gained}
 use Rattle.items.proofs.Between.{one_more}
 use Rattle.tables.specs.Tables.{records_of}
 
@@ -37,7 +35,7 @@ body_few (Some k) body =
       | inr other ↦ rw (ne_eqb (length body) (size_of (layout k)) other) (omega arith)
     ]
 
-record_few : (bytes : Record) → length (handles_of bytes) ≤ length bytes
+pub record_few : (bytes : Record) → length (handles_of bytes) ≤ length bytes
 record_few [] = omega arith
 record_few (byte ∷ body) = omega (arith, body_few (kind_of byte) body)
 
@@ -45,16 +43,11 @@ pub records_few : (rs : List Record) → length (flat_map handles_of rs) ≤ len
 records_few [] = omega arith
 records_few (r ∷ rs) = omega (arith, record_few r, records_few rs, length-append (handles_of r) (flat_map handles_of rs), length-append r (flat_map (λ r. r) rs))
 
--- the numbers that the handles of a record name, and those of the records in a block
-pub cut_few : (t : Table) (own : List ℕ) (block : List ℕ) (hs : List Handle) → hs ≡ handles_of own → length (numbers t (hs ++ flat_map handles_of (split block))) ≤ length own + length block
-cut_few t own block hs e =
-    omega (arith, numbers_few t (hs ++ flat_map handles_of (split block)), length-append hs (flat_map handles_of (split block)), ap length e, record_few own, records_few (split block), ap length (joined_split block))
-
 kept_one : (b : Bool) (i : Item) (items : List Item) (n : ℕ) → length (image (map (λ j. j.bytes) items)) ≤ n → length (image (map (λ j. j.bytes) (cond b (i ∷ items) items))) ≤ length i.bytes + n
 kept_one true i items n l = omega (arith, length-append i.bytes (image (map (λ j. j.bytes) items)))
 kept_one false i items n l = omega arith
 
-gained_within : (k : ℕ) (sec : Section) (s : State) (rs : List Record) → length (image (records_of k (gained sec s rs))) ≤ length (image rs)
+pub gained_within : (k : ℕ) (sec : Section) (s : State) (rs : List Record) → length (image (records_of k (gained sec s rs))) ≤ length (image rs)
 gained_within k sec s [] = omega arith
 gained_within k sec s (r ∷ rs) =
     let later = gained_within k sec (step s r) rs in
@@ -68,16 +61,11 @@ gained_within k sec s (r ∷ rs) =
     ]
 
 -- the records in front and those behind them
-parts_few : (n : ℕ) (m : List Record) → length (image (take n m)) + length (image (drop n m)) ≡ length (image m)
+pub parts_few : (n : ℕ) (m : List Record) → length (image (take n m)) + length (image (drop n m)) ≡ length (image m)
 parts_few n m =
     sym (length-append (image (take n m)) (image (drop n m)))
     ∙ ap length (sym (flat_map-append (λ (r : Record). r) (take n m) (drop n m)))
     ∙ ap (λ l. length (image l)) (take-append-drop n m)
-
--- the records of one kind that make items have no more bytes than all
-pub between_within : (k : ℕ) (sec : Section) (m : List Record) (x to : ℕ) → length (image (records_of k (items_between sec m x to))) ≤ length (image m)
-unfolding items_between
-between_within k sec m x to = omega (arith, gained_within k sec (state (take x m)) (drop x (take to m)), parts_few x (take to m), parts_few to m)
 
 -- the numbers that the handles of two lists of such records name
 pub both_few : (t : Table) (hs : List Handle) (xs ys : List Record) (n : ℕ) → hs ≡ [] → length (image xs) ≤ n → length (image ys) ≤ n → length (numbers t (hs ++ flat_map handles_of (xs ++ ys))) ≤ n + n

@@ -3,3 +3,7 @@ pub mod Few
 pub mod Going
 pub mod Entering
 pub mod Bodies
+pub mod Made
+pub mod Weighing
+pub mod Calling
+pub mod InAll

@@ -1,7 +1,8 @@
 //! Items by number, gone on with from where it last looked.
-ghost use Rattle.std.specs.Prelude.{◌≡◌, ◌∷◌, [], drop, length, IfSome, Some, None, MatchOption};
+ghost use Rattle.std.specs.Prelude.{◌≡◌, ◌^◌, ◌<◌, ◌∷◌, [], drop, length, IfSome, Some, None, MatchOption};
 ghost use Rattle.std.proofs.Props.{props};
-ghost use Rattle.tables.specs.Entering.{Enters, Enters-prop};
+ghost use Rattle.node.specs.Nodes.{operands_in_all};
+ghost use Rattle.tables.specs.Entering.{Enters, Enters-prop, nodes_left};
 
 use crate::entered::Entered;
 use crate::source::Source;
@@ -13,6 +14,7 @@ pub(crate) struct Cursor<'a> {
     source: Source<'a>,
     all: Items<'a>,
     entered: Option<Entered<'a>>,
+    pub(crate) ghost few: { operands_in_all (nodes_left source all) < 2 ^ 64 },
     ghost there: { IfSome entered (Enters source all) } by { Prim.hlevel (props, Enters-prop) },
 }
 
@@ -20,11 +22,11 @@ impl<'a> Cursor<'a> {
     ghost use Rattle.std.specs.List.{slice_get};
     ghost use Rattle.std.specs.Option.{option_map};
     ghost use Rattle.node.specs.Nodes.{operand_of};
-    ghost use Rattle.tables.specs.Entering.{nodes_left};
     ghost use Rattle.tables.specs.Cursor.{cursor_nodes, Found, Stays};
 
     /// These items, of which none is entered.
     pub(crate) fn new(source: Source<'a>, all: Items<'a>) -> Cursor<'a>
+        requires { operands_in_all (nodes_left source all) < 2 ^ 64 }
         ensures { cursor_nodes result ≡ nodes_left source.entry all.entry }
     {
         Cursor {

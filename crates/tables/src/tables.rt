@@ -1,9 +1,10 @@
 //! The node tables of a module and of a body.
-ghost use Rattle.std.specs.Prelude.{◌≡◌};
+ghost use Rattle.std.specs.Prelude.{◌≡◌, ◌^◌, ◌<◌};
 ghost use Rattle.arena.specs.Viewing.{viewed};
 ghost use Rattle.items.specs.declared.section.Section.TheVariants.{Numbered};
 ghost use Rattle.items.specs.Item.{items_left, shown_body};
 ghost use Rattle.items.specs.Whole.{items_of, module_of};
+ghost use Rattle.node.specs.Nodes.{operands_in_all};
 ghost use Rattle.tables.specs.Tables.{types_nodes, filters_nodes, functions_nodes, expressions_nodes, inner_nodes};
 ghost use Rattle.tables.specs.Entering.{nodes_left};
 
@@ -70,6 +71,7 @@ impl<'a, T> ItemTable<'a, T> {
 
     /// These items, with what makes their operands.
     fn of(source: Source<'a>, items: Items<'a>) -> ItemTable<'a, T>
+        requires { operands_in_all (nodes_left source items) < 2 ^ 64 }
         ensures { table_nodes result ≡ nodes_left source.entry items.entry }
     {
         ItemTable {
@@ -150,6 +152,8 @@ impl<'a, T> NodeTable<'a> for ItemTable<'a, T> {
     ghost use Rattle.tables.specs.Cursor.{table_nodes};
 
     ghost nodes = { table_nodes };
+
+    ghost few = { λ table. table.cursor.few };
 
     fn count(&self) -> usize {
         self.cursor.count()

@@ -15,15 +15,12 @@ returns-in_err-item-clause-finds c =
     ∙ ap (map (node_by s)) (skipped shown items_left from.0 c.nth.new.self from.1 None c.in_err-item.ensures.ran) in
     rw c.from_residual.ensures none
 
-pub invariant_of-self : goal.invariant_of-self
-invariant_of-self c =
+pub invariant_of-self-clause-there : goal.invariant_of-self-clause-there
+invariant_of-self-clause-there c =
     let s = c.args.self.now.source in
     let from = c.before-skipped.result in
     let i = c.in_ok-item.item in
-    record {
-      there =
-          sym c.before-skipped.ensures
-          ∙ drop-map (node_by s) from.1 (items_left from.0)
-          ∙ ap (map (node_by s)) (skipped shown items_left from.0 c.nth.new.self from.1 (Some i) c.in_ok-item.ensures.ran)
-          ∙ ap (λ o. record { bytes = i.«record».bytes.now; operands = o } ∷ nodes_left s c.nth.new.self) (sym c.operands-operands.ensures.gives);
-    }
+    sym c.before-skipped.ensures
+    ∙ drop-map (node_by s) from.1 (items_left from.0)
+    ∙ ap (map (node_by s)) (skipped shown items_left from.0 c.nth.new.self from.1 (Some i) c.in_ok-item.ensures.ran)
+    ∙ ap (λ o. record { bytes = i.«record».bytes.now; operands = o } ∷ nodes_left s c.nth.new.self) (sym c.operands-operands.ensures.gives)
