@@ -1,5 +1,5 @@
 -- The check and sealing answer no other faults: test by test, by what makes the tests.
-use Rattle.std.proofs.Common.{◌≡◌, ℕ, zero, suc, Bool, true, false, cond, ◌||◌, List, [], ◌∷◌, ◌++◌, map, filter, take, flat_map, Some, None, Option, refl, subst, sym, ap}
+use Rattle.std.proofs.Common.{◌≡◌, ℕ, suc, Bool, true, false, cond, ◌||◌, List, [], ◌∷◌, ◌++◌, map, filter, take, flat_map, Some, None, Option, refl, subst}
 use Rattle.std.specs.List.{AllByRecursion}
 use Rattle.std.specs.Option.{option_to_list}
 use Rattle.std.proofs.ByRecursion.{All-append, All-weaker}
@@ -10,9 +10,7 @@ use Rattle.ir.specs.declared.handle.Handle.{Handle}
 use Rattle.ir.specs.declared.handle.Handle.TheVariants as handle
 use Rattle.ir.specs.declared.kinds.Kind.TheVariants as kind
 use Rattle.ir.specs.declared.kinds.Statement.TheVariants as statement
-use Rattle.ir.specs.Handle.{named, table_of}
 use Rattle.records.specs.Handles.{handles_of}
-use Rattle.rules.specs.declared.faults.Rule.{Rule}
 use Rattle.rules.specs.declared.faults.Rule.TheVariants as rule
 use Rattle.rules.specs.declared.faults.Fault.{Fault}
 use Rattle.rules.specs.declared.sizes.Sizes.{Sizes}
@@ -20,8 +18,8 @@ use Rattle.rules.specs.Module.{Item, Body, Module}
 use Rattle.rules.specs.Kinds.{Constant, Override, Compose, Emit, ImageAtomic, is, makes_value}
 use Rattle.rules.specs.Sizes.{sizes, sizes_in}
 use Rattle.rules.specs.Items.{handles, fields, is_of, numbers, own, init_of, pending_of, at}
-use Rattle.rules.specs.Fault.{Test, first, inside, earlier, range, fault_kind, all_inside, own_inside, numbered, numbered_from}
-use Rattle.rules.specs.Check.{value_tests, constant_tests, override_tests, const_expression_tests, returned, sized_tests, init_tests, size_tests, pending_tests, base_tests, type_tests, callee_tests, named_tests, operand_tests, expression_tests, tested, start_of, end_of, statement_tests, body_leaf, body_tests, entry_handles, entry_tests, special_tests, filter_tests, later_tests, check_tests, check}
+use Rattle.rules.specs.Fault.{Test, first, inside, earlier, range, fault_kind, all_inside, own_inside, numbered_from}
+use Rattle.rules.specs.Check.{value_tests, constant_tests, override_tests, const_expression_tests, returned, sized_tests, init_tests, size_tests, pending_tests, base_tests, type_tests, named_tests, operand_tests, expression_tests, tested, start_of, end_of, statement_tests, body_leaf, body_tests, entry_handles, entry_tests, special_tests, filter_tests, later_tests, check_tests}
 use Rattle.rules.specs.Once.{inits}
 use Rattle.sealing.specs.Seal as seals
 use Rattle.sealing.specs.Seal.{seal, all_tests, seal_tests}

@@ -1,5 +1,5 @@
 -- Of which kinds the items of a draft's special types, predeclared types and entry points are.
-use Rattle.std.proofs.Common.{◌≡◌, ℕ, ◌≤◌, Bool, true, false, cond, ◌&&◌, nat_le, ◌==◌, List, [], ◌∷◌, ◌++◌, map, length, take, drop, Some, None, Ok, Err, Option, Result, sym, refl, ap, ◌∙◌, subst, arith}
+use Rattle.std.proofs.Common.{◌≡◌, ℕ, Bool, true, false, cond, nat_le, List, [], ◌∷◌, map, length, take, drop, Some, None, Ok, Err, Option, Result, sym, refl, ap, ◌∙◌, subst, arith}
 use Rattle.std.specs.List.{AllByRecursion}
 use Rattle.std.specs.Option.{option_to_list}
 use Rattle.std.proofs.lemmas.Bool.{and_parts, leb-true, eq-eqb}
@@ -8,14 +8,12 @@ use Rattle.ir.specs.declared.kinds.Kind.{Kind}
 use Rattle.ir.specs.declared.kinds.Kind.TheVariants as kind
 use Rattle.ir.specs.declared.kinds.TypeInner.TheVariants as type
 use Rattle.ir.specs.declared.kinds.Statement.TheVariants as statement
-use Rattle.ir.specs.Number.{within}
 use Rattle.records.specs.declared.judge.Flaw.{Flaw}
 use Rattle.records.specs.Record.{judged}
 use Rattle.rules.specs.Module.{Record, Item, Body, Module}
 use Rattle.rules.specs.Kinds.{starts_with, is}
 use Rattle.draft.specs.declared.state.BodyKind.{BodyKind}
 use Rattle.draft.specs.declared.state.BodyKind.TheVariants as body_kind
-use Rattle.draft.specs.declared.state.SlotTable.{SlotTable}
 use Rattle.draft.specs.declared.state.SlotTable.TheVariants as table
 use Rattle.draft.specs.Manner.{manner_of}
 use Rattle.draft.specs.State.{State, start, step, state, item_of, table_in, entries_now}

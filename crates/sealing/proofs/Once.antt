@@ -1,5 +1,5 @@
 -- Looking at each global expression once changes no answer.
-use Rattle.std.proofs.Common.{◌≡◌, ℕ, zero, suc, ◌<◌, true, List, [], ◌∷◌, ◌++◌, map, take, drop, slice_get, flat_map, Some, sym, refl, ap, subst, ◌∙◌, inl, inr, arith}
+use Rattle.std.proofs.Common.{◌≡◌, ℕ, zero, suc, ◌<◌, List, [], ◌∷◌, take, drop, slice_get, flat_map, Some, sym, refl, subst, ◌∙◌, inl, inr, arith}
 use Rattle.std.specs.List.{AllByRecursion}
 use Rattle.std.proofs.ByRecursion.{All-weaker}
 use Rattle.std.proofs.lemmas.Bool.{cases_lt}
@@ -10,7 +10,7 @@ use Rattle.rules.specs.Module.{Item, Module}
 use Rattle.rules.specs.Sizes.{sizes}
 use Rattle.rules.specs.Fault.{Test, first, numbered, numbered_from}
 use Rattle.rules.specs.Verdict.{AllHold}
-use Rattle.rules.specs.Once.{inits, met_after, unmet}
+use Rattle.rules.specs.Once.{inits, met_after}
 use Rattle.rules.proofs.Passing.{hold_from_none, none_from_hold, hold_each, below_from_hold, hold_from_below}
 use Rattle.rules.proofs.Firsts.{passed, then_same, after_same, each_same}
 use Rattle.rules.proofs.Once.{get_take, get_from_take}

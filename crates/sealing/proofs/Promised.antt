@@ -12,14 +12,13 @@ use Rattle.rules.specs.Module.{Item, Body, Module}
 use Rattle.rules.specs.Kinds.{CallResult, Call, is}
 use Rattle.rules.specs.Items.{handles, numbers, init_of, pending_of, at}
 use Rattle.rules.specs.Sizes.{sizes}
-use Rattle.rules.specs.Fault.{earlier, numbered}
+use Rattle.rules.specs.Fault.{numbered}
 use Rattle.rules.specs.Check.{init_tests, size_tests, pending_tests, base_tests, type_tests, check_tests, check}
 use Rattle.rules.specs.Once.{inits}
 use Rattle.rules.proofs.Once.{all_flat}
 use Rattle.rules.specs.Verdict.{AllHold, NamesEarlier, CallsEarlier, Ordered}
 use Rattle.rules.proofs.Passing.{hold_from_none, none_from_hold, hold_left, hold_right, hold_each, hold_numbered, below_from_hold}
 use Rattle.rules.proofs.Verdict.{verdict}
-use Rattle.node.specs.Nodes.{Node}
 use Rattle.tables.specs.Tables.{node_of, records_of, callees, function_node}
 use Rattle.tables.proofs.Numbers.{numbers_append}
 use Rattle.sealing.specs.Seal.{global_tests, pending_tests as sized_tests, body_tests, calls, call_tests, other_tests, inner_then_other_tests, seal_tests, all_tests, seal}

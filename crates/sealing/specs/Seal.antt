@@ -1,5 +1,5 @@
 -- seal: the tests that the check leaves out, in order.
-use Rattle.std.specs.Prelude.{ℕ, suc, Bool, cond, not, ◌||◌, List, [], ◌∷◌, ◌++◌, length, map, take, drop, Some, None, filter, Option, nat_lt}
+use Rattle.std.specs.Prelude.{ℕ, suc, Bool, cond, not, ◌||◌, List, [], ◌∷◌, ◌++◌, length, map, take, drop, Some, filter, Option, nat_lt}
 use Rattle.std.specs.List.{flat_map}
 use Rattle.std.specs.Option.{option_map, option_to_list}
 use Rattle.ir.specs.declared.handle.Table.TheVariants as table

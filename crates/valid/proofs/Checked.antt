@@ -20,7 +20,7 @@ none_is : {X : Type 0} (o : Option X) → is_none o ≡ true → o ≡ None
 none_is None e = refl
 none_is (Some x) e = absurd cc
 
-ended_of : (s : State) → finished s ≡ true → s.opened ≡ None
+pub ended_of : (s : State) → finished s ≡ true → s.opened ≡ None
 ended_of s e = none_is s.opened (and_parts (is_none s.opened) (is_none s.waits) e).0
 
 -- the answer of a finished draft

@@ -1,0 +1,4 @@
+pub mod Breaches
+pub mod Named
+pub mod Calling
+pub mod Sealing
