@@ -9,7 +9,7 @@ use Rattle.draft.specs.State.{state}
 use Rattle.history.specs.declared.calls.Call.{Call}
 use Rattle.history.specs.declared.calls.Call.TheVariants as call
 use Rattle.history.specs.declared.calls.Outcome.{Outcome}
-use Rattle.history.specs.Calls.{puts_of, checked, outcome_of, kept_by, outcomes, EachVerdict}
+use Rattle.history.specs.Calls.{puts_of, checked, sealed, outcome_of, kept_by, outcomes, EachVerdict, EachSeal}
 use Rattle.history.specs.Homes.{home_of}
 use Rattle.history.specs.Runs.{put_kept, run, Numbered, Names, NumbersStay, StillNamed, OneNumber}
 
@@ -17,6 +17,7 @@ puts_append : (xs ys : List Call) → puts_of (xs ++ ys) ≡ puts_of xs ++ puts_
 puts_append [] ys = refl
 puts_append (call.Put r ∷ xs) ys = ap (λ rs. r.now ∷ rs) (puts_append xs ys)
 puts_append (call.Check ∷ xs) ys = puts_append xs ys
+puts_append (call.Seal ∷ xs) ys = puts_append xs ys
 
 module _ (room places : ℕ) where
   run_append : (m xs ys : List Record) → run room places m (xs ++ ys) ≡ run room places (run room places m xs) ys
@@ -26,24 +27,34 @@ module _ (room places : ℕ) where
   kept_one : (m : List Record) (c : Call) → kept_by room places m c ≡ run room places m (puts_of (c ∷ []))
   kept_one m (call.Put r) = refl
   kept_one m call.Check = refl
+  kept_one m call.Seal = refl
 
   outcomes_push : (m : List Record) (xs : List Call) (c : Call) → outcomes room places m (xs ++ c ∷ []) ≡ outcomes room places m xs ++ Some (outcome_of room places (run room places m (puts_of xs)) c) ∷ []
   outcomes_push m [] c = refl
   outcomes_push m (call.Put x ∷ xs) c = ap (λ l. Some (outcome_of room places m (call.Put x)) ∷ l) (outcomes_push (put_kept room places m x.now) xs c)
   outcomes_push m (call.Check ∷ xs) c = ap (λ l. Some (checked m) ∷ l) (outcomes_push m xs c)
+  outcomes_push m (call.Seal ∷ xs) c = ap (λ l. Some (sealed m) ∷ l) (outcomes_push m xs c)
 
   length_outcomes : (m : List Record) (xs : List Call) → length (outcomes room places m xs) ≡ length xs
   length_outcomes m [] = refl
   length_outcomes m (x ∷ xs) = ap suc (length_outcomes (kept_by room places m x) xs)
 
-  verdict_there : (m : List Record) (earlier later : List Call) (rest : List (Option Outcome)) → slice_get (outcomes room places m (earlier ++ (call.Check ∷ later)) ++ rest) (length earlier) ≡ Some (Some (checked (run room places m (puts_of earlier))))
-  verdict_there m [] later rest = refl
-  verdict_there m (call.Put r ∷ cs) later rest = verdict_there (put_kept room places m r.now) cs later rest
-  verdict_there m (call.Check ∷ cs) later rest = verdict_there m cs later rest
+  -- what a call answered at its place in a list
+  answer_there : (m : List Record) (earlier : List Call) (c : Call) (later : List Call) (rest : List (Option Outcome)) → slice_get (outcomes room places m (earlier ++ (c ∷ later)) ++ rest) (length earlier) ≡ Some (Some (outcome_of room places (run room places m (puts_of earlier)) c))
+  answer_there m [] c later rest = refl
+  answer_there m (call.Put r ∷ cs) c later rest = answer_there (put_kept room places m r.now) cs c later rest
+  answer_there m (call.Check ∷ cs) c later rest = answer_there m cs c later rest
+  answer_there m (call.Seal ∷ cs) c later rest = answer_there m cs c later rest
+
+  each_answer : (calls : List Call) (rest answers : List (Option Outcome)) → answers ≡ outcomes room places [] calls ++ rest → (c : Call) (earlier later : List Call) → calls ≡ earlier ++ (c ∷ later) → slice_get answers (length earlier) ≡ Some (Some (outcome_of room places (run room places [] (puts_of earlier)) c))
+  each_answer calls rest answers is c earlier later parts =
+      ap (λ os. slice_get os (length earlier)) (is ∙ ap (λ cs. outcomes room places [] cs ++ rest) parts) ∙ answer_there [] earlier c later rest
 
   pub each_verdict : (calls : List Call) (rest answers : List (Option Outcome)) → answers ≡ outcomes room places [] calls ++ rest → EachVerdict room places calls answers
-  each_verdict calls rest answers is earlier later parts =
-      ap (λ os. slice_get os (length earlier)) (is ∙ ap (λ cs. outcomes room places [] cs ++ rest) parts) ∙ verdict_there [] earlier later rest
+  each_verdict calls rest answers is earlier later parts = each_answer calls rest answers is call.Check earlier later parts
+
+  pub each_seal : (calls : List Call) (rest answers : List (Option Outcome)) → answers ≡ outcomes room places [] calls ++ rest → EachSeal room places calls answers
+  each_seal calls rest answers is earlier later parts = each_answer calls rest answers is call.Seal earlier later parts
 
   -- the kept records after one call more; the sizes of the memory stay
   pub run_more : (calls : List Call) (i : ℕ) (d : Call) → i < length calls → (room' places' : ℕ) → room' ≡ room → places' ≡ places → (m : List Record) → m ≡ run room places [] (puts_of (take i calls)) → (m' : List Record) → m' ≡ kept_by room' places' m (get_or calls i d) → m' ≡ run room places [] (puts_of (take (i + 1) calls))

@@ -13,13 +13,15 @@ use Rattle.history.specs.declared.calls.Outcome.{Outcome}
 use Rattle.history.specs.declared.calls.Outcome.TheVariants as outcome
 use Rattle.draft.specs.State.{state}
 use Rattle.valid.specs.Check.{verdict_of}
+use Rattle.sealing.specs.Seal.{seal_of}
 use Rattle.history.specs.Runs.{put_kept, run, StillNamed, OneNumber}
 
--- the records that calls put: a check puts none
+-- the records that calls put: a check and a seal put none
 abbrev pub puts_of : List Call → List Record
 puts_of [] = []
 puts_of (call.Put r ∷ cs) = r.now ∷ puts_of cs
 puts_of (call.Check ∷ cs) = puts_of cs
+puts_of (call.Seal ∷ cs) = puts_of cs
 
 -- passed, or refused for this reason
 abbrev pub unless : Option Rejection → Result Unit Rejection
@@ -30,16 +32,22 @@ unless (Some e) = Err e
 abbrev pub checked : List Record → Outcome
 checked m = outcome.Checked (unless (verdict_of (state m)))
 
+-- and what a seal does
+abbrev pub sealed : List Record → Outcome
+sealed m = outcome.Sealed (unless (seal_of (state m)))
+
 module _ (room places : ℕ) where
   -- what a call answers on a draft that has kept these
   abbrev pub outcome_of : List Record → Call → Outcome
   outcome_of m (call.Put r) = outcome.Put (put_def room places m r.now).0
   outcome_of m call.Check = checked m
+  outcome_of m call.Seal = sealed m
 
-  -- the records that are kept after it: a check changes none
+  -- the records that are kept after it: a check and a seal change none
   abbrev pub kept_by : List Record → Call → List Record
   kept_by m (call.Put r) = put_kept room places m r.now
   kept_by m call.Check = m
+  kept_by m call.Seal = m
 
   -- what calls answer, one after the other
   abbrev pub outcomes : List Record → List Call → List (Option Outcome)
@@ -51,6 +59,12 @@ abbrev pub EachVerdict : ℕ → ℕ → List Call → List (Option Outcome) →
 EachVerdict room places calls answers =
     (earlier later : List Call) → calls ≡ earlier ++ (call.Check ∷ later)
     → slice_get answers (length earlier) ≡ Some (Some (checked (run room places [] (puts_of earlier))))
+
+-- and wherever a seal stands, whether the module that was kept there keeps the rules of sealing, or why it does not
+abbrev pub EachSeal : ℕ → ℕ → List Call → List (Option Outcome) → Type 0
+EachSeal room places calls answers =
+    (earlier later : List Call) → calls ≡ earlier ++ (call.Seal ∷ later)
+    → slice_get answers (length earlier) ≡ Some (Some (sealed (run room places [] (puts_of earlier))))
 
 -- how many calls are made: no more than there are places for their answers
 abbrev pub made : List Call → List (Option Outcome) → ℕ
@@ -77,3 +91,5 @@ pub record Replayed (calls : List Call) (answers : List (Option Outcome)) (bytes
   pub types : OneNumber (length bytes) (length slots) (put_by calls answers)
   -- every check answered the verdict of the module that was kept there
   pub verdicts : EachVerdict (length bytes) (length slots) (made_of calls answers) answers'
+  -- and every seal that of sealing it
+  pub seals : EachSeal (length bytes) (length slots) (made_of calls answers) answers'

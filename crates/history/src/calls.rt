@@ -9,6 +9,7 @@ use rules::faults::Rejection;
 pub enum Call<'a> {
     Put(&'a [u8]),
     Check,
+    Seal,
 }
 
 /// What a call answered.
@@ -16,4 +17,5 @@ pub enum Call<'a> {
 pub enum Outcome {
     Put(Result<Option<Handle>, Refusal>),
     Checked(Result<(), Rejection>),
+    Sealed(Result<(), Rejection>),
 }

@@ -1,5 +1,8 @@
 //! Makes every call of a list on a new draft.
 ghost use Rattle.std.specs.Prelude.{◌≡◌, min, [], ◌++◌, length};
+ghost use Rattle.std.specs.Result.{result_err};
+ghost use Rattle.draft.specs.State.{state};
+ghost use Rattle.sealing.specs.Seal.{seal_of};
 ghost use Rattle.arena.specs.Memory.{Stands, records};
 ghost use Rattle.history.specs.Calls.{outcome_of, kept_by, outcomes, puts_of, Replayed};
 ghost use Rattle.history.specs.Runs.{run};
@@ -7,7 +10,18 @@ ghost use Rattle.history.specs.Runs.{run};
 use crate::calls::{Call, Outcome};
 use arena::Draft;
 use arena::slot::Slot;
+use rules::faults::Rejection;
+use seal::seal::seal;
 use valid::check::check;
+
+/// Seals a draft, and lets it go.
+fn seal_once(draft: &Draft, bytes: &[u8], slots: &[Slot]) -> Result<(), Rejection>
+    requires { Stands draft.now bytes.now slots.now }
+    ensures { result_err result ≡ seal_of (state (records draft.now bytes.now slots.now)) }
+{
+    seal(draft, bytes, slots)?;
+    Ok(())
+}
 
 /// Makes one call.
 // Lent on each call; a struct of the three must also promise that its references stay: no plainer.
@@ -20,6 +34,7 @@ fn make(call: Call<'_>, draft: &mut Draft, bytes: &mut [u8], slots: &mut [Slot])
     match call {
         Call::Put(record) => Outcome::Put(draft.put(bytes, slots, record)),
         Call::Check => Outcome::Checked(check(draft.view(bytes, slots))),
+        Call::Seal => Outcome::Sealed(seal_once(draft, bytes, slots)),
     }
 }
 

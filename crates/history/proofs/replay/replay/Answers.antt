@@ -4,7 +4,7 @@ use Rattle.std.proofs.lemmas.List.{get_or-take, length-take-le}
 use Rattle.arena.specs.Memory.{records}
 use Rattle.history.specs.Calls.{outcome_of, kept_by, outcomes, made, made_of, put_by, puts_of}
 use Rattle.history.specs.Runs.{run}
-use Rattle.history.proofs.Replaying.{run_more, answers_more, still_named, one_number_in, each_verdict}
+use Rattle.history.proofs.Replaying.{run_more, answers_more, still_named, one_number_in, each_verdict, each_seal}
 use Rattle.history.proofs.Staying.{numbers_stay}
 use Rattle.history.proofs.replay.replay.Goals as goal
 
@@ -38,4 +38,5 @@ returns c =
       named = still_named _ _ law (put_by calls answers) _ keeps;
       types = one_number_in _ _ law (put_by calls answers);
       verdicts = each_verdict _ _ (made_of calls answers) _ _ answered;
+      seals = each_seal _ _ (made_of calls answers) _ _ answered;
     }
