@@ -4,7 +4,7 @@ use Rattle.std.specs.Str.{bytes_eq}
 use Rattle.command.specs.declared.Word.{Word}
 use Rattle.command.specs.declared.Word.TheVariants as word
 use Rattle.command.specs.declared.Command.{Command}
-use Rattle.command.specs.declared.Command.TheVariants.{Report, Check}
+use Rattle.command.specs.declared.Command.TheVariants.{Report, Check, Seal}
 use Rattle.command.specs.declared.Request.{Request}
 use Rattle.command.specs.declared.Request.TheVariants.{Read, Help, Version}
 use Rattle.command.specs.declared.Misuse.{Misuse}
@@ -74,10 +74,11 @@ abbrev pub command_of : List ℕ → Progress
 command_of w =
     cond (bytes_eq w (codes "report")) (Reading Report no_options)
     (cond (bytes_eq w (codes "check")) (Reading Check no_options)
+    (cond (bytes_eq w (codes "seal")) (Reading Seal no_options)
     (cond (bytes_eq w (codes "--help")) (Settled (Ok Help))
     (cond (bytes_eq w (codes "-h")) (Settled (Ok Help))
     (cond (bytes_eq w (codes "--version")) (Settled (Ok Version))
-    (Settled (Err UnknownCommand))))))
+    (Settled (Err UnknownCommand)))))))
 
 -- one word more
 abbrev pub next_of : Progress → List ℕ → Progress

@@ -33,6 +33,8 @@ pub enum Command {
     Report,
     /// Only what the check answers is reported.
     Check,
+    /// Only whether it is sealed is reported.
+    Seal,
 }
 
 /// How it is done.
@@ -129,6 +131,7 @@ fn take_command(text: &str) -> Progress
     match text {
         "report" => Progress::Reading(Command::Report, Options::default()),
         "check" => Progress::Reading(Command::Check, Options::default()),
+        "seal" => Progress::Reading(Command::Seal, Options::default()),
         "--help" | "-h" => Progress::Settled(Ok(Request::Help)),
         "--version" => Progress::Settled(Ok(Request::Version)),
         _ => Progress::Settled(Err(Misuse::UnknownCommand)),
@@ -293,6 +296,10 @@ mod tests {
         assert_eq!(rt;
             parsed(heap, "check a")?,
             Ok(Request::Read(Command::Check, named))
+        );
+        assert_eq!(rt;
+            parsed(heap, "seal a")?,
+            Ok(Request::Read(Command::Seal, named))
         );
         assert_eq!(rt; parsed(heap, "check --bytes")?, Err(Misuse::NoNumber));
         Ok(())

@@ -1,11 +1,13 @@
 //! Drafts that records are put into.
 ghost use Rattle.std.specs.Prelude.{◌≡◌, ℕ, List, [], IfOk, vec_len};
+ghost use Rattle.std.specs.Result.{result_err};
 ghost use Rattle.std.proofs.Props.{props};
 ghost use Rattle.draft.specs.State.{state};
 ghost use Rattle.draft.specs.Counting.{counts_of};
 ghost use Rattle.arena.specs.Memory.{Stands, records, Accepted-prop};
 ghost use Rattle.arena.specs.Put.{put_def};
 ghost use Rattle.arena.specs.Viewing.{viewed};
+ghost use Rattle.sealing.specs.Seal.{seal_of};
 ghost use Rattle.owned.specs.Kept.{kept_in};
 ghost use Rattle.owned.specs.Putting.{put_all};
 ghost use Rattle.modseal.specs.Putting.{Put, PutOrFails};
@@ -18,6 +20,9 @@ use draft::refusal::Refusal;
 use ir::handle::Handle;
 use owned::denial::Denial;
 use owned::owned::OwnedDraft;
+use rules::faults::Rejection;
+use seal::seal::seal;
+use seal::sealed::Sealed;
 use std::alloc::{AllocError, Global};
 
 /// What a draft answers to a record: the item that it is, if it is numbered, or why it is refused.
@@ -43,6 +48,10 @@ pub trait AnyDraft {
     /// Its kept records.
     fn view(&self) -> View<'_>
         ensures { viewed result ≡ kept self.now };
+
+    /// The draft sealed, or why it is not.
+    fn sealed(&self) -> Result<Sealed<'_>, Rejection>
+        ensures { result_err result ≡ seal_of (state (kept self.now)) };
 }
 
 /// A draft in memory that does not grow.
@@ -86,6 +95,10 @@ impl AnyDraft for FixedDraft {
         self.draft
             .view(self.bytes.as_slice(), self.slots.as_slice())
     }
+
+    fn sealed(&self) -> Result<Sealed<'_>, Rejection> {
+        seal(&self.draft, self.bytes.as_slice(), self.slots.as_slice())
+    }
 }
 
 impl AnyDraft for OwnedDraft {
@@ -108,6 +121,11 @@ impl AnyDraft for OwnedDraft {
 
     fn view(&self) -> View<'_> {
         OwnedDraft::view(self)
+    }
+
+    fn sealed(&self) -> Result<Sealed<'_>, Rejection> {
+        let (draft, bytes, slots) = self.parts();
+        seal(draft, bytes, slots)
     }
 }
 

@@ -9,6 +9,7 @@ mod verdict;
 
 use crate::drafts::{AnyDraft, FixedDraft};
 use crate::report::Reporter;
+use crate::verdict::Question;
 use command::{Command, Misuse, Options, Request, Word, parse};
 use owned::owned::OwnedDraft;
 use records::image::Records;
@@ -20,21 +21,23 @@ const HELP: &str = "modseal: reads images of shader modules
 
 usage: modseal report [OPTION...] [FILE...]
        modseal check [OPTION...] [FILE...]
+       modseal seal [OPTION...] [FILE...]
        modseal --help | -h | --version
 
 report puts each record of each FILE, or of standard input where no FILE is named
 or FILE is -, into a new draft, and prints its index from 0, its offset, its kind,
 the number that it got and its fields, or the number of its refusal, which ends
 the report of that image; at last how many items each table has, what each number
-names, and whether the module of what was kept passes the check
+names, and whether the module of what was kept passes the check and is sealed
 
 check prints one line for each FILE, NAME: check passed, or why it is refused by the
-draft or the check; the status is 1 where one is refused
+draft or the check; the status is 1 where one is refused; seal does likewise, and
+tests also what the check leaves out
 
 --plain       one line a record: record INDEX KIND NUMBER, or
               record INDEX KIND refused NUMBER; at last check passed, or
-              check NUMBER KIND FIRST SECOND POSITION
-              (check: NAME: check passed, or
+              check NUMBER KIND FIRST SECOND POSITION, and the same for seal
+              (check, seal: NAME: check passed, or
               NAME: check NUMBER KIND FIRST SECOND POSITION)
 --keep-going  report: go on behind a refused record
 --bytes N     lend the draft N bytes, and
@@ -55,7 +58,7 @@ struct Inputs<'a> {
 }
 
 impl Inputs<'_> {
-    /// Reports or checks an image; whether the check, if it is asked for, passes.
+    /// Reports, checks or seals an image; whether it passes what is asked for.
     fn read_into<W: Write, D: AnyDraft + Drop>(
         &self,
         reporter: &mut Reporter<'_, W>,
@@ -68,12 +71,13 @@ impl Inputs<'_> {
                 reporter.report(image, draft)?;
                 Ok(true)
             }
-            Command::Check => reporter.check(name, image, draft),
+            Command::Check => reporter.ask(Question::Check, name, image, draft),
+            Command::Seal => reporter.ask(Question::Seal, name, image, draft),
         }
     }
 
-    /// Reports or checks an image, in memory that grows unless an option fixes it; whether the check, if it
-    /// is asked for, passes.
+    /// Reports, checks or seals an image, in memory that grows unless an option fixes it; whether it passes
+    /// what is asked for.
     fn read_image(&self, name: &str, image: &[u8]) -> io::Result<bool> {
         let heap = self.rt.alloc();
         let options = self.options;
@@ -98,7 +102,7 @@ impl Inputs<'_> {
         Ok(passed)
     }
 
-    /// Reports or checks one input; whether it could be read, and passes.
+    /// Reports, checks or seals one input; whether it could be read, and passes.
     // A `bool` and no error: what went wrong is written here, and the other inputs follow.
     fn take_input(&self, name: &str, word: Word) -> io::Result<bool> {
         let read = match word {
@@ -114,7 +118,7 @@ impl Inputs<'_> {
         }
     }
 
-    /// Reports or checks every input that the words behind the command name; whether all could be read, and
+    /// Reports, checks or seals every input that the words behind the command name; whether all could be read, and
     /// pass.
     // The words are read again for the names: the options are `Copy` and hold no text.
     fn take_all(&self, words: &[String]) -> io::Result<bool> {

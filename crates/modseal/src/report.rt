@@ -3,7 +3,9 @@ use crate::drafts::{AnyDraft, Outcome};
 use crate::named::show_names;
 use crate::show::{Fields, Totals};
 use crate::verdict;
+use crate::verdict::Question;
 use arena::answer::answered_number;
+use arena::view::View;
 use command::Options;
 use records::image::{Record, Records};
 use std::fmt::Display;
@@ -86,16 +88,24 @@ impl<W: Write> Reporter<'_, W> {
         Ok(entry.outcome.is_ok() || self.options.keep_going)
     }
 
+    /// Shows an answer of a draft.
+    fn show_answer(&mut self, answer: verdict::Plain, view: View<'_>) -> io::Result<()> {
+        if self.options.plain {
+            writeln!(self.out, "{answer}")
+        } else {
+            writeln!(self.out, "{}", verdict::Full::of(answer, view))
+        }
+    }
+
     /// Shows what the draft has come to.
     fn show_end<D: AnyDraft>(&mut self, draft: &D) -> io::Result<()> {
         let view = draft.view();
-        let answer = verdict::Plain::of(view);
-        if self.options.plain {
-            return writeln!(self.out, "{answer}");
+        if !self.options.plain {
+            write!(self.out, "{}", Totals(draft.counts()))?;
+            show_names(self.out, view)?;
         }
-        write!(self.out, "{}", Totals(draft.counts()))?;
-        show_names(self.out, view)?;
-        writeln!(self.out, "{}", verdict::Full::of(answer, view))
+        self.show_answer(verdict::Plain::of(Question::Check, draft), view)?;
+        self.show_answer(verdict::Plain::of(Question::Seal, draft), view)
     }
 
     /// Puts each record of an image into a new draft and shows what it answered, up to the first that
@@ -120,9 +130,10 @@ impl<W: Write> Reporter<'_, W> {
     }
 
     /// Puts each record of an image into a new draft, up to the first that it refuses, and shows on one line
-    /// what the check answers; whether it passes.
-    pub fn check<D: AnyDraft + Drop>(
+    /// what the draft answers to a question; whether it passes.
+    pub fn ask<D: AnyDraft + Drop>(
         &mut self,
+        question: Question,
         name: &str,
         image: &[u8],
         mut draft: D,
@@ -131,7 +142,7 @@ impl<W: Write> Reporter<'_, W> {
             if let Err(refusal) = draft.put(record.bytes)? {
                 let number = refusal.number();
                 if self.options.plain {
-                    writeln!(self.out, "{name}: check {number} 0 0 0 0")?;
+                    writeln!(self.out, "{name}: {question} {number} 0 0 0 0")?;
                 } else {
                     writeln!(
                         self.out,
@@ -141,13 +152,9 @@ impl<W: Write> Reporter<'_, W> {
                 return Ok(false);
             }
         }
-        let view = draft.view();
-        let answer = verdict::Plain::of(view);
-        if self.options.plain {
-            writeln!(self.out, "{name}: {answer}")?;
-        } else {
-            writeln!(self.out, "{name}: {}", verdict::Full::of(answer, view))?;
-        }
+        let answer = verdict::Plain::of(question, &draft);
+        write!(self.out, "{name}: ")?;
+        self.show_answer(answer, draft.view())?;
         Ok(answer.is_passed())
     }
 }

@@ -1,4 +1,5 @@
-//! What the check answers to a draft.
+//! What the check and sealing answer to a draft.
+use crate::drafts::AnyDraft;
 use arena::view::View;
 use records::image::Record;
 use rules::faults::{Fault, FaultKind, Rejection, Rule};
@@ -6,33 +7,69 @@ use std::fmt;
 use std::fmt::Display;
 use valid::check::check;
 
+/// What a draft is asked.
+#[derive(Clone, Copy)]
+pub enum Question {
+    Check,
+    Seal,
+}
+
+impl Question {
+    /// What a draft answers to it.
+    fn put_to<D: AnyDraft>(self, draft: &D) -> Result<(), Rejection> {
+        match self {
+            Question::Check => check(draft.view()),
+            Question::Seal => {
+                let _sealed = draft.sealed()?;
+                Ok(())
+            }
+        }
+    }
+}
+
+impl Display for Question {
+    fn fmt<W: fmt::Write>(&self, f: &mut fmt::Formatter<W>) -> fmt::Result {
+        f.write_str(match self {
+            Question::Check => "check",
+            Question::Seal => "seal",
+        })
+    }
+}
+
 /// The answer on one line, by numbers.
 #[derive(Clone, Copy)]
-pub struct Plain(Result<(), Rejection>);
+pub struct Plain {
+    question: Question,
+    answer: Result<(), Rejection>,
+}
 
 impl Plain {
     /// That of a draft.
-    pub fn of(view: View<'_>) -> Plain {
-        Plain(check(view))
+    pub fn of<D: AnyDraft>(question: Question, draft: &D) -> Plain {
+        Plain {
+            question,
+            answer: question.put_to(draft),
+        }
     }
 
     /// Whether the draft passes.
     pub fn is_passed(self) -> bool {
-        self.0.is_ok()
+        self.answer.is_ok()
     }
 }
 
 impl Display for Plain {
     fn fmt<W: fmt::Write>(&self, f: &mut fmt::Formatter<W>) -> fmt::Result {
-        match self.0 {
-            Ok(()) => f.write_str("check passed"),
+        let question = self.question;
+        match self.answer {
+            Ok(()) => write!(f, "{question} passed"),
             Err(rejection) => {
                 let number = rejection.number();
                 let kind = rejection.kind();
                 let first = rejection.first();
                 let second = rejection.second();
                 let place = rejection.place();
-                write!(f, "check {number} {kind} {first} {second} {place}")
+                write!(f, "{question} {number} {kind} {first} {second} {place}")
             }
         }
     }
@@ -107,11 +144,11 @@ impl<'a> Full<'a> {
 
 impl Display for Full<'_> {
     fn fmt<W: fmt::Write>(&self, f: &mut fmt::Formatter<W>) -> fmt::Result {
-        let Plain(answer) = self.answer;
+        let Plain { question, answer } = self.answer;
         match answer {
-            Ok(()) => f.write_str("check passed"),
+            Ok(()) => write!(f, "{question} passed"),
             Err(rejection) => {
-                write!(f, "check refused {}: ", rejection.number())?;
+                write!(f, "{question} refused {}: ", rejection.number())?;
                 match rejection {
                     Rejection::Unfinished => f.write_str("a function is open or records wait"),
                     Rejection::Faulty(fault) => {
