@@ -1,260 +1,34 @@
 #!/usr/bin/env python3
-"""Writes what the program check_vectors reads and must answer, from the pages docs/FORMAT.md and docs/CHECK.md.
+"""Writes what the program check_vectors reads and must answer: images, and for each what the check and what sealing answers.
 
 Run from the repository's root: python3 tools/check_vectors.py
-It shares no code with the crates: the check is written here a second time, as loops over decoded records.
+The answers are those of tools/second_check.py, which shares no code with the crates.
 """
+import itertools
 import random
+import re
 
 from format_page import ABSENT, CASED, KINDS
+from sample_images import IMAGES, UNSEALED
+from second_check import MISPLACED, Module, case, check, record, seal, word
 
 random.seed(30)
-TYPES, CONSTANTS, OVERRIDES, GLOBALS, LOCALS, EXPRESSIONS, FUNCTIONS, FILTERS = range(8)
-TABLES = {"type": TYPES, "constant": CONSTANTS, "override": OVERRIDES, "global variable": GLOBALS, "local variable": LOCALS,
-          "expression": EXPRESSIONS, "function": FUNCTIONS, "filter": FILTERS}
-KIND_NUMBERS = {TYPES: 1, CONSTANTS: 2, OVERRIDES: 3, GLOBALS: 4, LOCALS: 5, EXPRESSIONS: 6, FUNCTIONS: 7, FILTERS: 9}
-
-
-def word(number):
-    return number.to_bytes(4, "little")
-
-
-def record(kind, *parts):
-    return bytes([kind]) + b"".join(p if isinstance(p, bytes) else word(p) for p in parts)
-
-
-def case(number, *words):
-    return record(number, *words)
-
-
-def table_of(sort):
-    return TABLES[sort.removeprefix("optional ").removesuffix(" handle")]
-
-
-def fields_of(bytes_):
-    """For each field of a record its handles, as pairs of a table and a number."""
-    at, fields = 1, []
-    for sort in KINDS[bytes_[0]][1]:
-        if sort == "flag":
-            words, width = [], 1
-        elif sort.startswith("cased "):
-            cases = CASED[sort[6:]]
-            width = 1 + 4 * max(len(ws) for ws in cases.values())
-            words = [(s, at + 1 + 4 * i) for i, s in enumerate(cases[bytes_[at]])]
-        else:
-            words, width = [(sort, at)], 4
-        handles = []
-        for s, where in words:
-            number = int.from_bytes(bytes_[where:where + 4], "little")
-            if s.endswith("handle") and number != ABSENT:
-                handles.append((table_of(s), number))
-        fields.append(handles)
-        at += width
-    return fields
-
-
-class Fault(Exception):
-    pass
-
-
-class Item:
-    def __init__(self, place, bytes_, taken):
-        self.place, self.bytes, self.taken = place, bytes_, taken
-        self.kind = bytes_[0]
-        self.fields = fields_of(bytes_)
-
-    def own(self):
-        return [h for f in self.fields for h in f]
-
-    def handles(self):
-        return self.own() + [h for t in self.taken for f in fields_of(t) for h in f]
-
-    def one(self, table):
-        return next((n for t, n in self.own() if t == table), None)
-
-    def numbers(self, table):
-        return [n for t, n in self.handles() if t == table]
-
-
-class Body:
-    def __init__(self, opener):
-        self.opener = opener
-        self.arguments, self.result, self.locals, self.named, self.expressions, self.statements = [], [], [], [], [], []
-
-
-class Module:
-    """What records make that put accepts."""
-
-    def __init__(self, records):
-        self.types, self.constants, self.overrides, self.globals, self.expressions = [], [], [], [], []
-        self.filters, self.special, self.leaf, self.functions, self.entries = [], [], [], [], []
-        self.open, waiting = None, []
-        for place, bytes_ in enumerate(records):
-            kind = bytes_[0]
-            if kind in (1, 2):
-                waiting.append(bytes_)
-                continue
-            item, waiting = Item(place, bytes_, waiting), []
-            self.add(kind, item)
-        self.finished = self.open is None and not waiting
-
-    def add(self, kind, item):
-        body = self.open
-        if kind in (11, 12):
-            self.open = Body(item)
-            (self.functions if kind == 11 else self.entries).append(self.open)
-        elif kind == 31:
-            self.open = None
-        elif kind == 14:
-            body.result = [item]
-        elif kind in (6, 9):
-            setattr(self, "special" if kind == 6 else "leaf", [item])
-        else:
-            table = {3: self.overrides, 4: self.constants, 5: self.globals, 8: self.filters}.get(kind)
-            if 16 <= kind <= 29:
-                table = self.types
-            if 64 <= kind <= 97:
-                table = body.expressions if body else self.expressions
-            if body and kind in (13, 15, 30):
-                table = {13: body.arguments, 15: body.locals, 30: body.named}[kind]
-            if kind >= 128:
-                table = body.statements
-            if table is not None:
-                table.append(item)
-
-
-class Check:
-    def __init__(self, module):
-        self.m = module
-        m = module
-        self.sizes = {TYPES: len(m.types), CONSTANTS: len(m.constants), OVERRIDES: len(m.overrides), GLOBALS: len(m.globals),
-                      LOCALS: 0, EXPRESSIONS: len(m.expressions), FUNCTIONS: len(m.functions), FILTERS: len(m.filters)}
-
-    def inside(self, handle, place, sizes=None):
-        table, number = handle
-        if number >= (sizes or self.sizes)[table]:
-            raise Fault(8, KIND_NUMBERS[table], number, 0, place)
-
-    def earlier(self, table, subject, named, place):
-        if named >= subject:
-            raise Fault(9, KIND_NUMBERS[table], subject, named, place)
-
-    def all_inside(self, handles, place, sizes=None):
-        for handle in handles:
-            self.inside(handle, place, sizes)
-
-    def answer(self):
-        if not self.m.finished:
-            return (7, 0, 0, 0, 0)
-        try:
-            self.module()
-        except Fault as fault:
-            return fault.args
-        return (0, 0, 0, 0, 0)
-
-    def const_expression(self, number, e):
-        """The tests of a global expression; the type that it returns."""
-        for kind, table, items in ((65, CONSTANTS, self.m.constants), (66, OVERRIDES, self.m.overrides)):
-            if e.kind == kind:
-                named = e.one(table)
-                self.inside((table, named), e.place)
-                init = items[named].one(EXPRESSIONS)
-                if init is not None:
-                    self.earlier(EXPRESSIONS, number, init, e.place)
-        if e.kind == 68:
-            for operand in e.numbers(EXPRESSIONS):
-                self.earlier(EXPRESSIONS, number, operand, e.place)
-        return e.one(TYPES) if e.kind in (67, 68) else None
-
-    def module(self):
-        m = self.m
-        for t, ty in enumerate(m.types):
-            for base in ty.numbers(TYPES):
-                self.earlier(TYPES, t, base, ty.place)
-            size = ty.one(OVERRIDES)
-            if size is None:
-                continue
-            self.inside((OVERRIDES, size), ty.place)
-            self.earlier(TYPES, t, m.overrides[size].one(TYPES), ty.place)
-            init = m.overrides[size].one(EXPRESSIONS)
-            if init is None:
-                continue
-            self.inside((EXPRESSIONS, init), ty.place)
-            # Each expression up to the init anew, whether or not an earlier type met it.
-            for number in range(init + 1):
-                returned = self.const_expression(number, m.expressions[number])
-                if returned is not None:
-                    self.earlier(TYPES, t, returned, ty.place)
-        for number, e in enumerate(m.expressions):
-            self.const_expression(number, e)
-        for item in m.constants + m.overrides + m.globals:
-            self.all_inside(item.own(), item.place)
-        for body in m.entries:
-            self.body(body, None)
-            o = body.opener
-            mesh = {table: [h for h in o.fields[8] if h[0] == table] for table in (GLOBALS, TYPES, EXPRESSIONS)}
-            for part in (o.fields[4], o.fields[5], o.fields[6], o.fields[9], mesh[GLOBALS], mesh[TYPES], mesh[EXPRESSIONS]):
-                self.all_inside(part, o.place)
-        for number, body in enumerate(m.functions):
-            self.body(body, number)
-        for item in m.special:
-            self.all_inside(item.fields[0] + item.fields[1] + item.fields[2], item.place)
-        for number, item in enumerate(m.filters):
-            for parent in item.numbers(FILTERS):
-                self.earlier(FILTERS, number, parent, item.place)
-        for item in m.leaf:
-            self.all_inside(item.own(), item.place)
-
-    def body(self, b, function):
-        sizes = dict(self.sizes)
-        sizes[LOCALS], sizes[EXPRESSIONS] = len(b.locals), len(b.expressions)
-        for item in b.arguments + b.result + b.locals + b.named:
-            self.all_inside(item.own(), item.place, sizes)
-        for number, e in enumerate(b.expressions):
-            for handle in e.own():
-                if handle[0] == EXPRESSIONS or handle[0] == TYPES and e.kind not in (67, 68):
-                    continue
-                self.inside(handle, e.place, sizes)
-                if handle[0] == FUNCTIONS and function is not None:
-                    self.earlier(FUNCTIONS, function, handle[1], b.opener.place)
-            for operand in e.numbers(EXPRESSIONS):
-                self.earlier(EXPRESSIONS, number, operand, e.place)
-        for s in b.statements:
-            self.statement(s, sizes)
-        o = b.opener
-        self.all_inside([h for h in o.own() if h[0] == FILTERS], o.place)
-
-    def statement(self, s, sizes):
-        if s.kind == 128:
-            start, end = (int.from_bytes(s.bytes[i:i + 4], "little") for i in (1, 5))
-            if start != end and not (start < end <= sizes[EXPRESSIONS]):
-                raise Fault(10, 6, start, end, s.place)
-            return
-        order = s.fields
-        if s.kind == 142:
-            order = [s.fields[i] for i in (0, 1, 2, 4)]
-        if s.kind == 144:
-            order = [s.fields[0], *(f for t in s.taken for f in fields_of(t)), s.fields[1]]
-        if s.kind in (147, 148):
-            order = [s.fields[1], s.fields[0], *s.fields[2:]]
-        for handles in order:
-            self.all_inside(handles, s.place, sizes)
-
-
 SCALAR = record(16, 1, 260)
 LITERAL = record(64, 42)
 FUNCTION, END = record(11, 1, ABSENT), record(31)
 
 
-def filled(kind, value):
-    """The fields of a record of a kind: `value` gives the number of each handle, told the sort and which it is."""
+def filled(kind, value, chosen=None):
+    """A record of a kind, and how many handles it has: `value` gives the number of each, told the sort and which it is. A cased field has
+    the chosen case, or else the one with the most handles."""
     parts, at = [], 0
     for sort in KINDS[kind][1]:
         if sort == "flag":
             parts.append(b"\0")
         elif sort.startswith("cased "):
             cases = CASED[sort[6:]]
-            chosen = max(cases, key=lambda c: sum(s.endswith("handle") for s in cases[c]))
+            if chosen is None:
+                chosen = max(cases, key=lambda c: sum(s.endswith("handle") for s in cases[c]))
             parts.append(bytes([chosen]))
             for s in cases[chosen]:
                 parts.append(word(value(s, at) if s.endswith("handle") else ABSENT if s == "unused" else 1))
@@ -390,12 +164,384 @@ def random_cases(count):
         yield records
 
 
-CASES = [*expression_cases(), *statement_cases(), *named_cases(), *random_cases(600)]
+def entry(payload=ABSENT):
+    return record(12, 1, 1, 1, 1, *[ABSENT] * 4, case(0, *[ABSENT] * 8), ABSENT, payload)
+
+
+def array(name, override):
+    """An array whose size is an override."""
+    return record(23, name, 0, case(1, override), 4)
+
+
+def override(init, ty=0):
+    return record(3, 1, 1, ty, init)
+
+
+def special(ray_desc, params, transfer):
+    return record(6, ray_desc, ABSENT, ABSENT, params, transfer)
+
+
+def compares(number, fun=7):
+    """An ImageAtomic on expression 0 that compares with an expression."""
+    return record(142, 0, 0, ABSENT, case(fun, number), 0)
+
+
+def called(function, result=ABSENT):
+    return record(144, function, result)
+
+
+ARGUMENT, RETURN, LAST = record(13, 1, 0, 1), record(135, ABSENT), ABSENT - 1
+ATOMIC = lambda ty: record(88, ty, b"\0")
+# the five kinds of expression with a type
+TYPED = {67: lambda ty: record(67, ty), 68: lambda ty: record(68, ty), 88: ATOMIC, 89: lambda ty: record(89, ty),
+         95: lambda ty: record(95, ty)}
+BODIES = ([FUNCTION], [entry()], [FUNCTION, END, FUNCTION], [entry(), END, entry()], [FUNCTION, END, entry()])
+
+
+def misplaced_cases():
+    """The four kinds that stand in bodies only, among the global expressions, alone and beside others."""
+    for kind in MISPLACED:
+        for number in (0, 1, 9, LAST):
+            yield [record(kind, number)]
+            yield [LITERAL, LITERAL, record(kind, number), LITERAL]
+        yield [record(73, ABSENT), record(kind, 0)]
+        # what it would name is there
+        yield [SCALAR, record(5, 1, 1, 1, 0, ABSENT, 1), FUNCTION, ARGUMENT, record(15, 1, 0, ABSENT), record(kind, 0), END, record(kind, 0)]
+        # in a body of a function that is not the first, with an argument, a local variable, a global variable
+        yield [SCALAR, record(5, 1, 1, 1, 0, ABSENT, 1), FUNCTION, END, FUNCTION, ARGUMENT, record(15, 1, 0, ABSENT), record(kind, 0), END]
+        yield [record(kind, 0), record(80, 1, 9)]
+        yield [record(80, 1, 9), record(kind, 0)]
+        yield [ATOMIC(9), record(kind, 0)]
+        yield [record(kind, 0), ATOMIC(9)]
+        # as the init of a size
+        yield [SCALAR, override(0), array(9, 0), record(kind, 0)]
+    for first, second in itertools.product(MISPLACED, MISPLACED):
+        yield [record(first, 1), record(second, 2)]
+
+
+def operand_cases():
+    """Each kind of expression among the globals, in each case of its cased field: each operand, and each two operands, before, at and
+    behind their holder."""
+    for kind in range(64, 98):
+        if kind in MISPLACED or kind == 68:
+            continue
+        cased = [s[6:] for s in KINDS[kind][1] if s.startswith("cased ")]
+        for chosen in [c for s in cased for c in CASED[s]] or [None]:
+            count = filled(kind, lambda s, i: 0, chosen)[1]
+            for at in range(count):
+                for named in (1, 2, 3, LAST):
+                    yield [LITERAL] * 2 + [filled(kind, lambda s, i: named if i == at else 0, chosen)[0]]
+            for two in itertools.combinations(range(count), 2):
+                yield [LITERAL] * 2 + [filled(kind, lambda s, i: 2 + i if i in two else 1, chosen)[0]]
+            # absent ones name nothing
+            yield [LITERAL, filled(kind, lambda s, i: ABSENT if s.startswith("optional") else 0, chosen)[0]]
+            yield [LITERAL, filled(kind, lambda s, i: ABSENT if s.startswith("optional") else 9, chosen)[0]]
+    # circles, and the items of a body with the same numbers
+    yield [record(80, 1, 1), record(80, 1, 0)]
+    yield [record(80, 1, 1), LITERAL]
+    yield [FUNCTION, LITERAL, LITERAL, END, record(80, 1, 1), LITERAL]
+    yield [FUNCTION, LITERAL, record(80, 1, 0), END, LITERAL, record(80, 1, 0)]
+
+
+def typed_cases():
+    """Each kind of expression with a type, below, at and above the number of types, as global one and in bodies."""
+    for (kind, typed), types, ty in itertools.product(TYPED.items(), range(3), (0, 1, 2, 7, LAST)):
+        front = [record(16, i, 260) for i in range(types)]
+        yield front + [typed(ty)]
+        yield [LITERAL, typed(ty)] + front
+        if kind not in (67, 68) or types == 1:
+            for body in BODIES:
+                yield front + body + [LITERAL, typed(ty), END]
+    for first, second in itertools.product(TYPED.values(), TYPED.values()):
+        yield [first(7), second(8)]
+        yield [SCALAR, first(0), second(8)]
+    # functions before entry points, whatever the order of the records
+    for first, second in itertools.product((88, 89, 95), (88, 89, 95)):
+        yield [entry(), TYPED[first](7), END, FUNCTION, TYPED[second](8), END]
+        yield [FUNCTION, TYPED[second](8), END, entry(), TYPED[first](7), END]
+        yield [entry(), TYPED[first](7), END, FUNCTION, END, FUNCTION, TYPED[second](8), END]
+    # with components
+    yield [LITERAL, record(2, 0), record(68, 0)]
+    yield [LITERAL, record(2, 0), record(68, 0), SCALAR]
+
+
+def argument_cases():
+    """Argument numbers below, at and above the number of arguments of their body."""
+    for count, index in itertools.product(range(4), (0, 1, 2, 3, 4, LAST, ABSENT)):
+        arguments = [ARGUMENT] * count
+        for body in BODIES:
+            yield [SCALAR] + body + arguments + [record(73, index), END]
+        yield [SCALAR, FUNCTION, record(73, index), *arguments, RETURN, END]
+        yield [SCALAR, FUNCTION, ARGUMENT, ARGUMENT, END, FUNCTION, *arguments, record(73, index), END]
+        yield [SCALAR, FUNCTION, *arguments, END, FUNCTION, ARGUMENT, ARGUMENT, record(73, index), END]
+    for index in range(3):
+        yield [SCALAR, entry(), record(73, index), END, FUNCTION, ARGUMENT, record(73, index), END]
+        yield [SCALAR, FUNCTION, ARGUMENT, record(73, index), ATOMIC(9), END]
+        yield [SCALAR, FUNCTION, ARGUMENT, ATOMIC(9), record(73, index), END]
+
+
+def call_cases():
+    """Calls of earlier, the same and later functions, in every function and in entry points."""
+    nestings = ([], []), ([record(129)], [record(151)]), ([LITERAL, record(130, 0), record(151)], [record(151)]), \
+        ([record(132)], [record(151), record(152, ABSENT)]), ([record(132), record(151)], [record(152, ABSENT)]), \
+        ([LITERAL, record(131, 0), record(153, 1, b"\0")], [record(151), record(154)])
+    for functions in (1, 2, 3):
+        for caller, callee in itertools.product(range(functions), repeat=2):
+            for opening, closing in nestings:
+                yield [r for i in range(functions) for r in [FUNCTION, *([*opening, called(callee), *closing] if i == caller else []), END]]
+        for callee in range(functions):
+            for opening, closing in nestings:
+                yield [entry(), *opening, called(callee), *closing, END] + [FUNCTION, END] * functions
+                yield [FUNCTION, END] * functions + [entry(), *opening, called(callee), *closing, END]
+    # two Calls in one function, and in two
+    for first, second in itertools.product(range(3), repeat=2):
+        yield [FUNCTION, END, FUNCTION, called(first), called(second), END, FUNCTION, END]
+        yield [FUNCTION, called(first), END, FUNCTION, called(second), END, FUNCTION, END]
+        yield [FUNCTION, END, FUNCTION, record(87, 0), called(first, 0), END, FUNCTION, LITERAL, record(2, 0), called(second), END]
+        yield [FUNCTION, END, entry(), called(first), called(second), END, FUNCTION, END, FUNCTION, END]
+        yield [entry(), END, FUNCTION, called(first), END, entry(), called(second), END, FUNCTION, END, FUNCTION, END]
+
+
+def other_cases():
+    """Special and predeclared types, incoming payloads, and what an ImageAtomic compares with."""
+    for types, number in itertools.product(range(3), (0, 1, 2, 9, LAST)):
+        front = [record(16, i, 260) for i in range(types)]
+        yield front + [special(ABSENT, number, ABSENT)]
+        yield front + [special(ABSENT, ABSENT, number)]
+        yield [special(ABSENT, 0, number)] + front
+        yield [special(ABSENT, number, 8)] + front
+        yield [special(7, number, number)] + front
+        yield front + [special(ABSENT, number, number), special(ABSENT, ABSENT, ABSENT)]
+        yield front + [special(ABSENT, ABSENT, ABSENT), special(ABSENT, number, ABSENT)]
+        yield front + [record(7, 1, number)]
+        yield [record(7, 1, number)] + front
+        yield front + [record(7, 1, 0), record(7, 2, number), record(7, 1, 8)]
+        variables = [record(5, 1, 1, 1, 0, ABSENT, 1)] * types
+        yield [SCALAR] + variables + [entry(number), END]
+        yield [SCALAR, entry(number), END] + variables
+        yield [SCALAR] + variables + [entry(), END, entry(number), END, entry(8), END]
+    for count, number in itertools.product((1, 2, 3), (ABSENT, 0, 1, 2, 3, 9, LAST)):
+        for body in BODIES:
+            yield body + [LITERAL] * count + [compares(number), END]
+        yield [FUNCTION] + [LITERAL] * count + [compares(0), record(129), compares(number), record(151), compares(8), END]
+        yield [entry(), LITERAL, record(132), compares(number), record(151), compares(7), record(152, ABSENT)] + [LITERAL] * count + [END]
+        yield [entry(), LITERAL, compares(number), END, FUNCTION] + [LITERAL] * count + [compares(number), END]
+        yield [LITERAL] * 3 + [FUNCTION, LITERAL, END, FUNCTION] + [LITERAL] * count + [compares(number), END]
+        # an Atomic's is tested by the check
+        yield [FUNCTION] + [LITERAL] * count + [record(141, 0, case(7, number), 0, ABSENT), END]
+    for fun in range(7):
+        yield [FUNCTION, LITERAL, compares(ABSENT, fun), END]
+
+
+def size_cases():
+    """Sizes that are overrides with an init: what the global expressions before, at and behind the init name."""
+    # each way to name a type: the records of the constant or override, and the expression
+    ways = {kind: (lambda ty, typed=typed: ([], typed(ty))) for kind, typed in TYPED.items()}
+    ways[65] = lambda ty: ([record(4, 1, ty, 0)], record(65, 0))
+    ways[66] = lambda ty: ([override(ABSENT, ty)], record(66, 1))
+    for way in ways.values():
+        for init, at, ty in itertools.product(range(1, 4), range(1, 4), range(3)):
+            front, expression = way(ty)
+            globals_ = [LITERAL] * 4
+            globals_[at] = expression
+            # type 1 has the size
+            yield [SCALAR, override(init), array(9, 0), record(16, 2, 260), *front, *globals_]
+        for ty in range(3):
+            front, expression = way(ty)
+            # the size of a BindingArray, of a later Array, and one without an init
+            yield [SCALAR, override(1), record(29, 9, 0, case(1, 0)), record(16, 2, 260), *front, LITERAL, expression]
+            yield [SCALAR, override(1), record(16, 2, 260), array(9, 0), *front, LITERAL, expression]
+            yield [SCALAR, override(ABSENT), array(9, 0), record(16, 2, 260), *front, LITERAL, expression]
+            # of two expressions, or two types, the first
+            other = ways[88](2)[1]
+            yield [SCALAR, override(2), array(9, 0), record(16, 2, 260), *front, LITERAL, expression, other]
+            yield [SCALAR, override(3), array(9, 0), record(16, 2, 260), *front, LITERAL, other, expression]
+            # behind a broken rule 1, and before one
+            yield [SCALAR, override(1), array(9, 0), record(16, 2, 260), *front, LITERAL, expression, record(80, 1, 5)]
+    # two types with such a size: the second has a smaller, the same or a larger init
+    for kind in (88, 67, 65):
+        for first, second, at, ty in itertools.product(range(3), range(3), range(3), range(1, 4)):
+            front, expression = ways[kind](ty)
+            globals_ = [LITERAL] * 3
+            globals_[at] = expression
+            yield [SCALAR, override(first), override(second), array(9, 0), array(8, 1), record(16, 2, 260), *front, *globals_]
+    for at, ty in itertools.product(range(3), range(1, 4)):
+        globals_ = [LITERAL] * 3
+        globals_[at] = ATOMIC(ty)
+        # the same override twice; a type without a size between; one without an init before
+        yield [SCALAR, override(1), array(9, 0), array(8, 0), record(16, 2, 260), *globals_]
+        yield [SCALAR, override(0), override(2), array(9, 0), record(16, 2, 260), array(8, 1), *globals_]
+        yield [SCALAR, override(ABSENT), override(1), array(9, 0), array(8, 1), record(16, 2, 260), *globals_]
+    # an override whose type is the array that it sizes, and one that its own init names
+    yield [SCALAR, override(0, 1), array(9, 0), LITERAL]
+    yield [SCALAR, override(0), array(9, 0), record(66, 0)]
+    yield [SCALAR, override(0), override(1), array(9, 1), LITERAL, record(66, 0)]
+
+
+# Parts of a module, each of which breaks one rule; a function's body is told the function's number.
+SIZED, FRONT, INNER, OUTER, SPECIAL = "sized", "front", "inner", "outer", "special"
+BROKEN = [
+    (FRONT, [record(74, 0)]),
+    (FRONT, [record(81, 1, 0, 99)]),
+    (FRONT, [record(95, 20)]),
+    (SIZED, [ATOMIC(1)]),
+    (INNER, lambda f: [record(89, 21)]),
+    (INNER, lambda f: [record(73, 1)]),
+    (INNER, lambda f: [called(f)]),
+    (INNER, lambda f: [compares(22)]),
+    (OUTER, lambda f: [ATOMIC(23)]),
+    (OUTER, lambda f: [record(73, 2)]),
+    (OUTER, lambda f: [compares(24)]),
+    (SPECIAL, 3),
+    (SPECIAL, 4),
+    (FRONT, [record(7, 1, 25)]),
+    (FRONT, [entry(26), END]),
+    # by the check
+    (FRONT, [record(4, 1, 27, 0)]),
+    (FRONT, [record(9, 28)]),
+    (FRONT, [record(65, 29)]),
+    (INNER, lambda f: [record(135, 30)]),
+    (OUTER, lambda f: [record(128, 3, 1)]),
+    (SPECIAL, 0),
+]
+
+
+def pair_cases():
+    """Modules that break two rules, in both orders, in one body and in two."""
+    for one, other in itertools.permutations(BROKEN, 2):
+        for joined in (False, True):
+            if joined and (one[0] != other[0] or one[0] not in (INNER, OUTER, SPECIAL)):
+                continue
+            sort, parts = one[0], [one, other]
+            sized = next((p for s, p in parts if s == SIZED), [LITERAL])
+            records, functions = [SCALAR, override(1), array(9, 0), LITERAL, *sized], 0
+            if joined and sort == SPECIAL:
+                records.append(record(6, *[31 if i in (one[1], other[1]) else ABSENT for i in range(5)]))
+            elif joined:
+                records += [FUNCTION if sort == INNER else entry(), LITERAL, *one[1](0), *other[1](0), END]
+            else:
+                for sort, part in parts:
+                    if sort == FRONT:
+                        records += part
+                    elif sort == SPECIAL:
+                        records.append(record(6, *[31 if i == part else ABSENT for i in range(5)]))
+                    elif sort in (INNER, OUTER):
+                        records += [FUNCTION if sort == INNER else entry(), LITERAL, *part(functions), END]
+                        functions += sort == INNER
+            yield records
+
+
+def random_seal_cases(count):
+    """Modules of random records that mostly pass the check, in a random order of their tables."""
+    for _ in range(count):
+        slip = random.choice([0, .02, .06])
+        below = lambda n, odd=slip: random.randrange(n) if n and random.random() >= odd else n + random.randrange(3)
+        low = lambda n, odd=slip: random.choice([0, 0, below(n, odd)]) if n else below(0)
+        maybe = lambda number: random.choice([ABSENT, number])
+        types, globals_, functions = random.randrange(1, 6), random.randrange(1, 7), random.randrange(4)
+        inits = [random.randrange(globals_) for _ in range(random.randrange(3))]
+        sizes = [random.choice([ABSENT, random.randrange(globals_)]) for _ in range(random.randrange(3))]
+        variables = random.randrange(3)
+        queues = {"types": [[SCALAR]]}
+        for t in range(1, types):
+            kind = random.choice([16, 21, 23, 24])
+            if kind == 23 and sizes:
+                queues["types"].append([record(23, 9 + t, below(t, 0), case(1, random.randrange(len(sizes))), 4)])
+            elif kind == 24:
+                queues["types"].append([record(1, 1, below(t, 0), 1, 1), record(24, 9 + t, 4)])
+            else:
+                queues["types"].append([record(21, 9 + t, below(t, 0), 1) if kind == 21 else record(16, 9 + t, 260)])
+        queues["constants"] = [[record(4, 1, low(types, 0), init)] for init in inits]
+        queues["overrides"] = [[record(3, 1, 1, low(types, 0), init)] for init in sizes]
+        queues["globals"] = [[record(5, 1, 1, 1, below(types, 0), ABSENT, 1)] for _ in range(variables)]
+        queues["expressions"] = []
+        for e in range(globals_):
+            kinds = [lambda: [LITERAL], lambda: [random.choice([*TYPED.values()])(low(types))]]
+            constants = [c for c, init in enumerate(inits) if init < e]
+            overrides = [o for o, init in enumerate(sizes) if init == ABSENT or init < e]
+            if constants:
+                kinds.append(lambda: [record(65, random.choice(constants))])
+            if overrides:
+                kinds.append(lambda: [record(66, random.choice(overrides))])
+            if e:
+                kinds.append(lambda: [record(81, 1, below(e), below(e))])
+                kinds.append(lambda: [record(2, below(e, 0)), record(68, low(types))])
+                kinds.append(lambda: [record(85, 1, below(e), maybe(below(e)), maybe(below(e)), ABSENT)])
+            if random.random() < slip:
+                kinds = [lambda: [record(random.choice(MISPLACED), 0)]]
+            queues["expressions"].append(random.choice(kinds)())
+        queues["functions"] = []
+        queues["entries"] = []
+        for f in [*range(functions), *[None] * random.randrange(3)]:
+            arguments, inner = random.randrange(3), random.randrange(1, 4)
+            body = [FUNCTION if f is not None else entry(maybe(below(variables)) if variables else ABSENT)] + [ARGUMENT] * arguments + [LITERAL]
+            for e in range(1, inner):
+                body.append(random.choice([record(73, below(arguments)) if arguments else LITERAL, record(80, 1, below(e, 0)),
+                                           TYPED[random.choice([88, 89, 95])](below(types)), record(67, below(types, 0))]))
+            for _ in range(random.randrange(3)):
+                callable_ = functions if f is None else f
+                call = called(min(below(callable_), max(0, functions - 1))) if callable_ else RETURN
+                body.append(random.choice([call, compares(maybe(below(inner))), record(135, below(inner, 0))]))
+            queues["functions" if f is not None else "entries"].append(body + [END])
+        queues["predeclared"] = [[record(7, 1, below(types))] for _ in range(random.randrange(3))]
+        queues["special"] = [[special(ABSENT, maybe(below(types)), maybe(below(types)))] for _ in range(random.randrange(2))]
+        records, left = [], [q for q in queues.values() if q]
+        while left:
+            queue = random.choice(left)
+            records += queue.pop(0)
+            left = [q for q in left if q]
+        yield records
+
+
+def page_cases():
+    """The examples of docs/SEAL.md, and the answers that stand there."""
+    sized = lambda ty: [SCALAR, override(1), array(9, 0), record(67, 0), record(4, 1, ty, 0), record(65, 0)]
+    examples = [
+        [],
+        [record(73, 0)],
+        [record(75, 0)],
+        [record(81, 1, 0, 0)],
+        [record(67, 7)],
+        sized(1),
+        sized(0),
+        [FUNCTION, ATOMIC(0), END],
+        [FUNCTION, record(73, 0), END],
+        [FUNCTION, called(0), END],
+        [FUNCTION, END, entry(), called(0), END],
+        [special(ABSENT, 0, ABSENT)],
+        [record(7, 1, 0)],
+        [entry(0), END],
+        [FUNCTION, LITERAL, compares(1), END],
+    ]
+    page = open("docs/SEAL.md").read()
+    rows = re.search(r"\| records \| seal \|\n\|---\|---\|\n((?:\|.*\n)+)", page)[1].splitlines()
+    stated = [row.strip("|").split("|")[-1].strip() for row in rows]
+    examples.append([record(81, 1, 1, 2), LITERAL, LITERAL])
+    stated.append(re.search(r"`seal` answers ([\d ]+):", page)[1])
+    for records, answer in zip(examples, stated, strict=True):
+        module = Module(records)
+        assert check(module) == (0,) * 5, answer
+        assert seal(module) == (tuple(map(int, answer.split())) if answer != "accepts" else (0,) * 5), (answer, seal(module))
+        yield records
+
+
+# The faults that sealing adds: docs/SEAL.md.
+SEALED = {(11, 6), (12, 1), (12, 4), (12, 6), (12, 8), (13, 1), (13, 6), (13, 7)}
+CHECK_CASES = [*expression_cases(), *statement_cases(), *named_cases(), *random_cases(600)]
+STORED = ["every_kind.img", "sealed.img", *UNSEALED]
+SEAL_CASES = [*(IMAGES[name] for name in STORED), *page_cases(), *misplaced_cases(), *operand_cases(), *typed_cases(),
+              *argument_cases(), *call_cases(), *other_cases(), *size_cases(), *pair_cases(), *random_seal_cases(200)]
+lines, checked, sealed = [], {}, {}
+for records in CHECK_CASES + SEAL_CASES:
+    module = Module(records)
+    verdict, answer = check(module), seal(module)
+    assert verdict == answer or verdict == (0,) * 5 and answer[:2] in SEALED
+    lines.append((b"".join(records).hex(), " ".join(map(str, verdict + answer))))
+    for counted, numbers in ((checked, verdict), (sealed, answer)):
+        counted[numbers[:2]] = counted.get(numbers[:2], 0) + 1
 with open("crates/check_vectors/stdin", "w") as images, open("crates/check_vectors/stdout", "w") as answers:
-    counted = {}
-    for records in CASES:
-        answer = Check(Module(records)).answer()
-        counted[answer[:2]] = counted.get(answer[:2], 0) + 1
-        images.write(b"".join(records).hex() + "\n")
-        answers.write(" ".join(map(str, answer)) + "\n")
-print(len(CASES), "images", dict(sorted(counted.items())))
+    for image, line in lines:
+        images.write(image + "\n")
+        answers.write(line + "\n")
+assert all(sealed[fault] >= 20 for fault in SEALED)
+print(len(lines), "images; the check:", dict(sorted(checked.items())), "sealing:", dict(sorted(sealed.items())))

@@ -1,17 +1,10 @@
 #!/usr/bin/env python3
 """Writes the images in crates/modseal/data. Run from the repository's root: python3 tools/sample_images.py"""
-ABSENT = 0xFFFFFFFF
+from format_page import ABSENT
+from second_check import MISPLACED, Module, case, check, record, seal
+
 FALSE, TRUE = b"\x00", b"\x01"
-
-
-def record(kind, *fields):
-    """A record: numbers are words, low byte first, and byte strings stand as they are."""
-    return bytes([kind]) + b"".join(f if isinstance(f, bytes) else f.to_bytes(4, "little") for f in fields)
-
-
-def case(number, *words):
-    return record(number, *words)
-
+ACCEPTED = (0, 0, 0, 0, 0)
 
 TYPES = [
     record(16, 1, 260),  # 0: Scalar
@@ -117,8 +110,91 @@ BIG = [
 MESH = case(1, 1, 64, ABSENT, 126, 0, 8, 8, 0)
 ENTRY = [record(12, 50, 1, ABSENT, 64, 0, ABSENT, ABSENT, 1, MESH, 0, ABSENT), record(135, ABSENT), record(31)]
 
+# Every kind that may stand among the global expressions, a size with an init, and all that sealing looks at.
+SEALED_GLOBALS = [
+    record(4, 20, 0, 0),  # constant 0
+    record(3, 21, ABSENT, 0, ABSENT),  # override 0
+    record(3, 22, ABSENT, 1, 4),  # override 1, with global expression 4
+    record(23, 23, 0, case(1, 0), 4),  # 14: an array sized by override 0
+    record(23, 24, 1, case(1, 1), 4),  # 15: an array sized by override 1
+    record(29, 25, 9, case(1, 1)),  # 16: a binding array sized by override 1
+    record(64, 42),  # 0: Literal
+    record(65, 0),  # 1: Constant
+    record(66, 0),  # 2: Override
+    record(67, 14),  # 3: ZeroValue
+    record(2, 0),
+    record(2, 1),
+    record(2, 3),
+    record(68, 8),  # 4: Compose of three operands
+    record(69, 4, 0),  # 5: Access
+    record(70, 4, 1),  # 6: AccessIndex
+    record(71, 3, 0),  # 7: Splat
+    record(72, 3, 4, 0x030201),  # 8: Swizzle
+    record(76, 5),  # 9: Load
+    record(77, 9, 9, ABSENT, 4, 0, 0, case(4, 4, 5), 2, FALSE),  # 10: ImageSample
+    record(78, 9, 4, 0, ABSENT, 0),  # 11: ImageLoad
+    record(79, 9, case(0, 0)),  # 12: ImageQuery
+    record(80, 1, 0),  # 13: Unary
+    record(81, 1, 0, 1),  # 14: Binary
+    record(82, 0, 1, 2),  # 15: Select
+    record(83, 0, 0, 4),  # 16: Derivative
+    record(84, 1, 0),  # 17: Relational
+    record(85, 5, 0, 1, 2, 3),  # 18: Math
+    record(86, 0, 2, 4),  # 19: As
+    record(88, 15, TRUE),  # 20: AtomicResult
+    record(89, 16),  # 21: WorkGroupUniformLoadResult
+    record(90, 9),  # 22: ArrayLength
+    record(91, 9, TRUE),  # 23: RayQueryVertexPositions
+    record(92),  # 24: RayQueryProceedResult
+    record(93, 9, FALSE),  # 25: RayQueryGetIntersection
+    record(94),  # 26: SubgroupBallotResult
+    record(95, 0),  # 27: SubgroupOperationResult
+    record(96, 8, 8, 1, 9, 0, TRUE),  # 28: CooperativeLoad
+    record(97, 28, 28, 28),  # 29: CooperativeMultiplyAdd
+    record(5, 26, 1, ABSENT, 8, 29, 0),  # global variable 0
+    record(6, 8, 14, 15, 8, 16),
+    record(7, 27, 8),
+    record(7, 28, 16),
+    record(8, 29, ABSENT),  # filter 0
+    record(8, 30, 0),  # filter 1
+    record(9, 1),
+]
+
+# A block in an If in a case of a Switch in a Loop, with both blocks of the Loop.
+NESTED = [
+    record(132),
+    record(131, 0), record(153, 1, TRUE), record(151), record(153, 2, FALSE),
+    record(130, 0), record(129), record(133), record(151), record(151), record(136), record(151),
+    record(151), record(154),
+    record(151), record(129), record(138, 2), record(151), record(152, 0),
+]
+
+COMPARED = [record(142, 10, 4, 0, case(7, 24), 0), record(141, 10, case(7, ABSENT), 0, 24)]
+
+SEALED_ENTRY = [
+    record(12, 50, 1, ABSENT, 64, 0, 29, ABSENT, 1, case(1, 1, 64, 29, 126, 28, 8, 15, 0), 0, 0),
+    record(13, 51, 0, ABSENT), record(14, 8, ABSENT), record(15, 52, 16, 0),
+    record(64, 42),  # 0: Literal
+    record(73, 0),  # 1: FunctionArgument
+    record(75, 0),  # 2: LocalVariable
+    record(87, 1),  # 3: CallResult
+    record(88, 16, TRUE),  # 4: AtomicResult
+    record(2, 3),
+    record(2, 1),
+    record(68, 8),  # 5: Compose of two operands
+    record(30, 5, 53),
+    record(2, 1),
+    record(144, 1, 3),
+    *NESTED,
+    record(142, 2, 1, ABSENT, case(7, 4), 5),
+    record(135, 5),
+    record(31),
+]
+
 IMAGES = {
     "every_kind.img": [*TYPES, *GLOBALS, *HELPER, *BIG, *ENTRY],
+    # every kind where it may stand, which sealing accepts
+    "sealed.img": [*TYPES, *SEALED_GLOBALS, *HELPER, *BIG[:-1], *NESTED, *COMPARED, record(31), *SEALED_ENTRY],
     # 10 is no kind
     "no_such_kind.img": [record(16, 1, 260), record(10, 0), record(16, 2, 261)],
     # an Array that lacks its last byte
@@ -149,11 +225,57 @@ IMAGES = {
     "unfinished.img": [record(11, 1, ABSENT), record(64, 42)],
 }
 
-for name, records in IMAGES.items():
-    with open("crates/modseal/data/" + name, "wb") as image:
-        image.write(b"".join(records))
-    print(name, len(records), "records")
+SCALAR, LITERAL, FUNCTION, END = record(16, 1, 260), record(64, 42), record(11, 1, ABSENT), record(31)
 
-missing = set(list(range(1, 10)) + list(range(11, 32)) + list(range(64, 98)) + list(range(128, 155)))
-missing -= {r[0] for r in IMAGES["every_kind.img"]}
-assert not missing, missing
+# One image for each place that only sealing tests, with the answer of sealing. The check passes each.
+UNSEALED = {
+    # among the global expressions: an argument, the two sorts of variables, the result of a call
+    "global_argument.img": ([record(73, 0)], (11, 6, 0, 0, 0)),
+    "global_variable.img": ([record(74, 0)], (11, 6, 0, 0, 0)),
+    "global_local_variable.img": ([record(75, 0)], (11, 6, 0, 0, 0)),
+    "global_call_result.img": ([record(87, 0)], (11, 6, 0, 0, 0)),
+    # a global product before its left operand
+    "product_before_operand.img": ([record(81, 1, 1, 2), LITERAL, LITERAL], (13, 6, 0, 1, 0)),
+    # a global value of a type that is not there
+    "global_type.img": ([record(67, 0)], (12, 1, 0, 0, 0)),
+    # under the size of type 1 a constant of type 1
+    "sized_by_constant.img": ([SCALAR, record(3, 2, ABSENT, 0, 1), record(23, 3, 0, case(1, 0), 4), LITERAL, record(4, 4, 1, 0),
+                               record(65, 0)], (13, 1, 1, 1, 2)),
+    # results of types that are not there
+    "atomic_result_type.img": ([FUNCTION, record(88, 0, FALSE), END], (12, 1, 0, 0, 1)),
+    "uniform_load_result_type.img": ([FUNCTION, record(89, 0), END], (12, 1, 0, 0, 1)),
+    "subgroup_result_type.img": ([FUNCTION, record(95, 0), END], (12, 1, 0, 0, 1)),
+    # argument 0 of a function without arguments
+    "argument_number.img": ([FUNCTION, record(73, 0), END], (12, 8, 0, 0, 1)),
+    # Calls of the same and of a later function, without a result
+    "call_of_itself.img": ([FUNCTION, record(144, 0, ABSENT), END], (13, 7, 0, 0, 0)),
+    "call_of_later.img": ([FUNCTION, record(144, 1, ABSENT), END, FUNCTION, END], (13, 7, 0, 1, 0)),
+    # the last two special types, and a predeclared type
+    "texture_params_type.img": ([record(6, ABSENT, ABSENT, ABSENT, 0, ABSENT)], (12, 1, 0, 0, 0)),
+    "transfer_function_type.img": ([record(6, ABSENT, ABSENT, ABSENT, ABSENT, 0)], (12, 1, 0, 0, 0)),
+    "predeclared_type.img": ([record(7, 1, 0)], (12, 1, 0, 0, 0)),
+    # the incoming payload of an entry point
+    "incoming_payload.img": ([record(12, 1, 1, ABSENT, 64, *[ABSENT] * 4, case(0, *[ABSENT] * 8), ABSENT, 0), END], (12, 4, 0, 0, 0)),
+    # what an ImageAtomic compares with
+    "compared_value.img": ([FUNCTION, LITERAL, record(142, 0, 0, ABSENT, case(7, 1), 0), END], (12, 6, 1, 0, 2)),
+}
+IMAGES |= {name: records for name, (records, _) in UNSEALED.items()}
+
+KINDS = {*range(1, 10), *range(11, 32), *range(64, 98), *range(128, 155)}
+for kinds in (IMAGES["every_kind.img"], IMAGES["sealed.img"]):
+    missing = KINDS - {r[0] for r in kinds}
+    assert not missing, missing
+
+SEALED = Module(IMAGES["sealed.img"])
+assert check(SEALED) == seal(SEALED) == ACCEPTED
+assert {e.kind for e in SEALED.expressions} == {*range(64, 98)} - set(MISPLACED)
+PAGE = open("docs/DIFFERENCES.md").read()
+for image, (unsealed, numbers) in UNSEALED.items():
+    assert check(Module(unsealed)) == ACCEPTED and seal(Module(unsealed)) == numbers, image
+    assert f"| {' '.join(map(str, numbers))} | `{image}` |" in PAGE, image
+
+if __name__ == "__main__":
+    for name, records in IMAGES.items():
+        with open("crates/modseal/data/" + name, "wb") as image:
+            image.write(b"".join(records))
+        print(name, len(records), "records")

@@ -1,5 +1,5 @@
 //! Reads images, one in hexadecimal on each line, puts the records of each into a new draft, and prints what
-//! the check answers by five numbers, or the number of a refused put and four zeros.
+//! the check and what sealing answers, by five numbers each; both are the number of a refused put and four zeros.
 #![tactic(auto)]
 
 use hexadecimal::decode;
@@ -7,6 +7,7 @@ use owned::denial::Denial;
 use owned::owned::OwnedDraft;
 use records::image::Records;
 use rules::faults::Rejection;
+use seal::seal::seal;
 use std::alloc::{AllocError, Global};
 use std::fmt::Display;
 use std::io::{BufRead, BufReader, BufWriter, Write};
@@ -49,22 +50,43 @@ impl Display for Numbers {
     }
 }
 
+/// What the check and what sealing answers for an image.
+#[derive(Clone, Copy)]
+struct Answers {
+    check: Numbers,
+    seal: Numbers,
+}
+
+impl Display for Answers {
+    fn fmt<W: fmt::Write>(&self, f: &mut fmt::Formatter<W>) -> fmt::Result {
+        write!(f, "{} {}", self.check, self.seal)
+    }
+}
+
 /// What is answered for an image.
-fn answer(heap: Global, image: &[u8]) -> Result<Numbers, AllocError> {
+fn answer(heap: Global, image: &[u8]) -> Result<Answers, AllocError> {
     let mut draft = OwnedDraft::new(heap);
     for record in Records::new(image) {
         match draft.put(record.bytes) {
             Ok(_) => {}
             Err(Denial::NoMemory(error)) => return Err(error),
             Err(Denial::Refused(refusal)) => {
-                return Ok(Numbers {
+                let numbers = Numbers {
                     number: refusal.number(),
                     ..Numbers::default()
+                };
+                return Ok(Answers {
+                    check: numbers,
+                    seal: numbers,
                 });
             }
         }
     }
-    Ok(check(draft.view()).map_or_else(Numbers::from, |()| Numbers::default()))
+    let (counts, bytes, slots) = draft.parts();
+    Ok(Answers {
+        check: check(draft.view()).map_or_else(Numbers::from, |()| Numbers::default()),
+        seal: seal(counts, bytes, slots).map_or_else(Numbers::from, |_| Numbers::default()),
+    })
 }
 
 fn main(rt: HostRuntime) -> io::Result<()> {
