@@ -1,0 +1,18 @@
+#!/usr/bin/env bash
+# Proves and builds the library, compiles check.c with it, and compares what it prints for some stored images,
+# by each of the three ways to ask, with the file stdout beside this one.
+set -euo pipefail
+here=$(cd "$(dirname "$0")" && pwd)
+root=$(cd "$here/../.." && pwd)
+work=$(mktemp -d)
+trap 'rm -rf "$work"' EXIT
+(cd "$root/crates/dulvanos" && rt lib) >"$work/log" 2>&1 || { cat "$work/log" >&2; exit 1; }
+"${CC:-cc}" -std=c11 -Wall -Wextra -O2 -pthread -I "$root/include" "$here/check.c" "$root/crates/dulvanos/out/libdulvanos.a" -o "$work/check"
+cd "$root/crates/modseal/data"
+for way in "" --each --large; do
+    { "$work/check" $way && "$work/check" $way every_kind.img no_such_kind.img wrong_length.img bad_field.img out_of_place.img \
+        too_deep.img unfinished.img not_inside.img not_earlier.img bad_range.img; } | diff "$here/stdout" - \
+        || { echo "examples/c: other answers with '$way'" >&2; exit 1; }
+done
+cat "$here/stdout"
+echo "examples/c: as stored, by all three ways"

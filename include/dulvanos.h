@@ -1,0 +1,98 @@
+/*
+ * Dulvanos: checks an image of a shader module.
+ *
+ * Each call puts the records of an image, one after the other, on a new draft. At the first record that put
+ * refuses it stops and answers that refusal; else it checks the module that the records make. docs/LIBRARY.md
+ * has how to build and link, docs/FORMAT.md what an image is, docs/REFUSALS.md and docs/CHECK.md the numbers.
+ *
+ * Memory: a call keeps the records in arrays on its own stack. It allocates nothing, reads the image and
+ * nothing else of the caller's, writes nothing of the caller's and keeps nothing for later.
+ *
+ * Threads: there is no state, so any number of calls may run at once, also on one image, as long as nothing
+ * writes that image meanwhile.
+ *
+ * Arguments: image points to length bytes that can be read. It is not NULL; for length 0 it may be any other
+ * pointer. Every image is answered: no content is an error of the caller's.
+ */
+#ifndef DULVANOS_H
+#define DULVANOS_H
+
+#include <stddef.h>
+#include <stdint.h>
+
+#ifdef __cplusplus
+extern "C" {
+#endif
+
+/* What dulvanos_check keeps of an image, and what dulvanos_check_large does: so many bytes, and so many
+   records. A record past either is refused with 6. */
+#define DULVANOS_BYTES 1048576
+#define DULVANOS_SLOTS 65536
+#define DULVANOS_LARGE_BYTES 4194304
+#define DULVANOS_LARGE_SLOTS 262144
+
+/* How much stack a thread needs: dulvanos_check and the five calls beside it, which use a little more than
+   2 MiB, and dulvanos_check_large. */
+#define DULVANOS_STACK 4194304
+#define DULVANOS_LARGE_STACK 67108864
+
+/* The number of a refusal; numbers never change their meaning. */
+enum dulvanos_refusal {
+    DULVANOS_PASSES = 0,
+    /* of put, with four zeros */
+    DULVANOS_NO_SUCH_KIND = 1, /* no kind has the number of the record's first byte */
+    DULVANOS_WRONG_LENGTH = 2, /* the record is cut short */
+    DULVANOS_BAD_FIELD = 3,    /* a field holds what it may not */
+    DULVANOS_MISPLACED = 4,    /* the record may not stand here */
+    DULVANOS_TOO_DEEP = 5,     /* it would open a 65th bracket */
+    DULVANOS_FULL = 6,         /* too few bytes, no slot or no number is left for it */
+    /* of the check, with four zeros */
+    DULVANOS_UNFINISHED = 7,   /* a function is open or records wait */
+    /* of the check, with a kind, two numbers and a position */
+    DULVANOS_INSIDE = 8,       /* a handle names no item of its table: first is its number, second is 0 */
+    DULVANOS_EARLIER = 9,      /* item first depends on item second, which is not earlier */
+    DULVANOS_RANGE = 10        /* the range from first to second is neither empty nor inside */
+};
+
+/* What first and second count, with refusals 8 to 10. */
+enum dulvanos_kind {
+    DULVANOS_TYPE = 1,
+    DULVANOS_CONSTANT = 2,
+    DULVANOS_OVERRIDE = 3,
+    DULVANOS_GLOBAL_VARIABLE = 4,
+    DULVANOS_LOCAL_VARIABLE = 5,
+    DULVANOS_EXPRESSION = 6,
+    DULVANOS_FUNCTION = 7,
+    DULVANOS_ARGUMENT = 8,
+    DULVANOS_DIAGNOSTIC_FILTER_NODE = 9
+};
+
+/* All 0 where the image passes. */
+struct dulvanos_verdict {
+    uint32_t number;  /* of the refusal */
+    uint32_t kind;    /* what first and second count, or 0 */
+    size_t first;     /* the first number of the fault, or 0 */
+    size_t second;    /* the second number of the fault, or 0 */
+    size_t position;  /* the place, from 0, of the record under test among the kept records, or 0 */
+};
+
+/* The whole answer, in DULVANOS_BYTES bytes and DULVANOS_SLOTS slots. */
+struct dulvanos_verdict dulvanos_check(const uint8_t *image, size_t length);
+
+/* One number of that answer each. Each call checks the image anew. */
+uint32_t dulvanos_check_number(const uint8_t *image, size_t length);
+uint32_t dulvanos_check_kind(const uint8_t *image, size_t length);
+size_t dulvanos_check_first(const uint8_t *image, size_t length);
+size_t dulvanos_check_second(const uint8_t *image, size_t length);
+size_t dulvanos_check_position(const uint8_t *image, size_t length);
+
+/* The whole answer, in DULVANOS_LARGE_BYTES bytes and DULVANOS_LARGE_SLOTS slots. To be called on a thread
+   with a stack of DULVANOS_LARGE_STACK bytes. The records are put and checked so many times in the same
+   memory, each time on a new draft, and the last answer is given: 1 for use, more to measure; 0 is as 1. */
+struct dulvanos_verdict dulvanos_check_large(const uint8_t *image, size_t length, uint32_t times);
+
+#ifdef __cplusplus
+}
+#endif
+
+#endif
