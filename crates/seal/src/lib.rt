@@ -10,3 +10,5 @@ mod others;
 pub mod seal;
 pub mod sealed;
 mod sizes;
+#[cfg(test)]
+mod tests;
