@@ -1,0 +1,3 @@
+//! Stands for naga's `HandleVec`, which the handle check does not use.
+
+pub struct HandleVec;

@@ -1,0 +1,149 @@
+//! Both verdicts for many images, counted, and those that differ.
+use crate::decode::Memory;
+use crate::source::Source;
+use crate::verdict::Verdict;
+use crate::{hexadecimal, library, reference};
+use std::collections::{BTreeMap, BTreeSet};
+use std::sync::atomic::{AtomicU64, Ordering};
+use std::thread;
+
+/// How often the five functions that answer one number each are asked instead: once in so many images.
+const NUMBERS_EACH: u64 = 64;
+
+/// How often a long run says how far it is.
+const PROGRESS_EACH: u64 = 100_000;
+
+/// An image on which the verdicts differ.
+pub struct Disagreement {
+    image: Vec<u8>,
+    library: Verdict,
+    reference: Verdict,
+}
+
+/// What came of the images of one source.
+#[derive(Default)]
+pub struct Comparison {
+    name: &'static str,
+    /// How many images got each number and kind.
+    counted: BTreeMap<(u32, u32), u64>,
+    images: u64,
+    /// The total length of the images.
+    bytes: u64,
+    disagreements: Vec<Disagreement>,
+}
+
+impl Comparison {
+    pub fn agrees(&self) -> bool {
+        self.disagreements.is_empty()
+    }
+
+    fn add(&mut self, number: u64, image: Vec<u8>, memory: Memory) {
+        let reference = reference::verdict(&image, memory);
+        let library = match memory {
+            Memory::LARGE => library::large(&image, 1 + number as u32 % 2),
+            _ if number.is_multiple_of(NUMBERS_EACH) => library::numbers(&image),
+            _ => library::verdict(&image),
+        };
+        self.images += 1;
+        self.bytes += image.len() as u64;
+        let pair = (reference.number, reference.kind);
+        *self.counted.entry(pair).or_default() += 1;
+        if library != reference {
+            self.disagreements.push(Disagreement {
+                image,
+                library,
+                reference,
+            });
+        }
+    }
+
+    fn join(&mut self, other: Comparison) {
+        for (pair, count) in other.counted {
+            *self.counted.entry(pair).or_default() += count;
+        }
+        self.images += other.images;
+        self.bytes += other.bytes;
+        self.disagreements.extend(other.disagreements);
+    }
+
+    fn count(&self, pair: (u32, u32)) -> u64 {
+        self.counted.get(&pair).copied().unwrap_or(0)
+    }
+}
+
+/// Prints how often each number and kind came from each source, and each image on which the verdicts differ.
+pub fn print(comparisons: &[Comparison]) {
+    let row = |head: &str, cells: Vec<String>| {
+        let cells: String = cells.iter().map(|cell| format!(" {cell:>10}")).collect();
+        println!("{head:<11}{cells}");
+    };
+    let total = |count: &dyn Fn(&Comparison) -> u64| {
+        let counts: Vec<u64> = comparisons.iter().map(count).collect();
+        let sum = counts.iter().sum::<u64>();
+        counts.iter().chain([&sum]).map(u64::to_string).collect()
+    };
+    let names = comparisons.iter().map(|it| it.name).chain(["all"]);
+    row("number kind", names.map(str::to_string).collect());
+    let pairs: BTreeSet<_> = comparisons
+        .iter()
+        .flat_map(|it| it.counted.keys().copied())
+        .collect();
+    for pair in pairs {
+        let head = format!("{:>6} {:>4}", pair.0, pair.1);
+        row(&head, total(&|it| it.count(pair)));
+    }
+    row("images", total(&|it| it.images));
+    row("bytes", total(&|it| it.bytes));
+    row("differing", total(&|it| it.disagreements.len() as u64));
+    for found in comparisons.iter().flat_map(|it| &it.disagreements) {
+        println!(
+            "library {} reference {} image {}",
+            found.library,
+            found.reference,
+            hexadecimal::encode(&found.image)
+        );
+    }
+}
+
+/// Both verdicts for all images of a source, by so many threads.
+pub fn compare(source: &Source, jobs: usize) -> Comparison {
+    let next = AtomicU64::new(0);
+    let mut whole = Comparison {
+        name: source.name,
+        ..Comparison::default()
+    };
+    thread::scope(|scope| {
+        let workers: Vec<_> = (0..jobs)
+            .map(|_| {
+                thread::Builder::new()
+                    .stack_size(library::STACK)
+                    .spawn_scoped(scope, || work(source, &next))
+                    .expect("a thread starts")
+            })
+            .collect();
+        for worker in workers {
+            whole.join(worker.join().expect("both checkers answer"));
+        }
+    });
+    eprintln!(
+        "{}: {} images, {} differing",
+        source.name,
+        whole.images,
+        whole.disagreements.len()
+    );
+    whole
+}
+
+fn work(source: &Source, next: &AtomicU64) -> Comparison {
+    let mut part = Comparison::default();
+    loop {
+        let number = next.fetch_add(1, Ordering::Relaxed);
+        if number >= source.count {
+            return part;
+        }
+        if number > 0 && number.is_multiple_of(PROGRESS_EACH) {
+            eprintln!("{}: {number} of {}", source.name, source.count);
+        }
+        part.add(number, source.image(number), source.memory);
+    }
+}

@@ -1,0 +1,111 @@
+//! Where the images of a run come from. Each image is fixed by its number, and random ones by the seed too.
+use crate::decode::Memory;
+use crate::generator::Scale;
+use crate::lists::{self, Lists};
+use crate::random::Random;
+use crate::{catalogue, damage, generator, limits, orders};
+
+/// A numbered list of images.
+pub struct Source {
+    pub name: &'static str,
+    pub count: u64,
+    /// The memory in which its images are put.
+    pub memory: Memory,
+    images: Images,
+}
+
+enum Images {
+    Short,
+    Lists(Lists),
+    Listed(Vec<Vec<u8>>),
+    Random { seed: u64, scale: Scale },
+    Damaged { seed: u64, scale: Scale },
+}
+
+impl Source {
+    /// All images of up to two bytes.
+    pub fn short() -> Self {
+        Source {
+            name: "two bytes",
+            count: lists::SHORT,
+            memory: Memory::SMALL,
+            images: Images::Short,
+        }
+    }
+
+    /// All lists of up to three small records.
+    pub fn lists() -> Self {
+        let lists = Lists::new();
+        Source {
+            name: "three",
+            count: lists.count(),
+            memory: Memory::SMALL,
+            images: Images::Lists(lists),
+        }
+    }
+
+    pub fn catalogue() -> Self {
+        Source::listed("catalogue", catalogue::images())
+    }
+
+    pub fn orders() -> Self {
+        Source::listed("orders", orders::images())
+    }
+
+    pub fn limits() -> Self {
+        Source::listed("limits", limits::images(Memory::SMALL))
+    }
+
+    /// The limits of the larger memory.
+    pub fn large() -> Self {
+        Source {
+            memory: Memory::LARGE,
+            ..Source::listed("large", limits::images(Memory::LARGE))
+        }
+    }
+
+    pub fn listed(name: &'static str, images: Vec<Vec<u8>>) -> Self {
+        Source {
+            name,
+            count: images.len() as u64,
+            memory: Memory::SMALL,
+            images: Images::Listed(images),
+        }
+    }
+
+    pub fn random(seed: u64, scale: Scale, count: u64) -> Self {
+        Source {
+            name: "random",
+            count,
+            memory: Memory::SMALL,
+            images: Images::Random { seed, scale },
+        }
+    }
+
+    /// Random images with changes, other than those of `random`.
+    pub fn damaged(seed: u64, scale: Scale, count: u64) -> Self {
+        Source {
+            name: "damaged",
+            count,
+            memory: Memory::SMALL,
+            images: Images::Damaged { seed: !seed, scale },
+        }
+    }
+
+    pub fn image(&self, number: u64) -> Vec<u8> {
+        match &self.images {
+            Images::Short => lists::short(number),
+            Images::Lists(lists) => lists.image(number),
+            Images::Listed(images) => images[number as usize].clone(),
+            Images::Random { seed, scale } => {
+                let records = generator::records(&mut Random::new(*seed, number), *scale);
+                records.concat()
+            }
+            Images::Damaged { seed, scale } => {
+                let mut random = Random::new(*seed, number);
+                let records = generator::records(&mut random, *scale);
+                damage::damaged(records, &mut random)
+            }
+        }
+    }
+}
