@@ -9,11 +9,11 @@ use Rattle.draft.specs.State.{state}
 use Rattle.arena.specs.Answer.{Answer}
 use Rattle.arena.specs.Put.{put_def}
 use Rattle.history.specs.Runs.{put_kept, run}
-use Rattle.valid.specs.Check.{verdict_of}
-use Rattle.images.specs.declared.refusal.ImageRefusal.TheVariants.{Check}
+use Rattle.images.specs.declared.question.Question.{Question}
+use Rattle.images.specs.declared.refusal.ImageRefusal.TheVariants.{Module}
 use Rattle.images.specs.declared.verdict.Verdict.{Verdict}
 use Rattle.images.specs.Putting.{unless_refused, put_all}
-use Rattle.images.specs.Answer.{refusal_after, refusal_in, verdict_in}
+use Rattle.images.specs.Answer.{asked, refusal_after, refusal_in, verdict_in}
 use Rattle.images.specs.Law.{AllAccepted, StopsAt, Means, Answers}
 
 module _ (room places : ℕ) where
@@ -39,19 +39,20 @@ module _ (room places : ℕ) where
   found m [] = inl (tt, refl)
   found m (r ∷ rs) = found_more m r rs (put_def room places m r).0 refl (found (put_kept room places m r) rs)
 
-  checked : (image : List ℕ) (v : Option Rejection) → verdict_of (state (run room places [] (split image))) ≡ v → AllAccepted room places [] (split image) → Means room places image (option_map Check v)
-  checked image None is accepted = record { accepted = accepted; verdict = is }
-  checked image (Some e) is accepted = record { accepted = accepted; verdict = is }
+  module _ (q : Question) where
+    answered : (image : List ℕ) (v : Option Rejection) → asked q (state (run room places [] (split image))) ≡ v → AllAccepted room places [] (split image) → Means q room places image (option_map Module v)
+    answered image None is accepted = record { accepted = accepted; answer = is }
+    answered image (Some e) is accepted = record { accepted = accepted; answer = is }
 
-  means_found : (image : List ℕ) → Found [] (split image) → Means room places image (refusal_in room places image)
-  unfolding Found
-  means_found image (inl (accepted, e)) =
-      subst (Means room places image) (sym (ap (λ (p : Result Unit Refusal × List Record). refusal_after p.0 p.1) e)) (checked image (verdict_of (state (run room places [] (split image)))) refl accepted)
-  means_found image (inr (e, (s, refused))) =
-      subst (Means room places image) (sym (ap (λ (x : Result Unit Refusal). refusal_after x (put_all room places [] (split image)).1) refused)) s
+    means_found : (image : List ℕ) → Found [] (split image) → Means q room places image (refusal_in q room places image)
+    unfolding Found
+    means_found image (inl (accepted, e)) =
+        subst (Means q room places image) (sym (ap (λ (p : Result Unit Refusal × List Record). refusal_after q p.0 p.1) e)) (answered image (asked q (state (run room places [] (split image)))) refl accepted)
+    means_found image (inr (e, (s, refused))) =
+        subst (Means q room places image) (sym (ap (λ (x : Result Unit Refusal). refusal_after q x (put_all room places [] (split image)).1) refused)) s
 
-  means : (image : List ℕ) → Means room places image (refusal_in room places image)
-  means image = means_found image (found [] (split image))
+    means : (image : List ℕ) → Means q room places image (refusal_in q room places image)
+    means image = means_found image (found [] (split image))
 
-  pub answers : (image : List ℕ) (v : Verdict) → v ≡ verdict_in room places image → Answers room places image v
-  answers image v is = record { why = refusal_in room places image; means = means image; told = is }
+    pub answers : (image : List ℕ) (v : Verdict) → v ≡ verdict_in q room places image → Answers q room places image v
+    answers image v is = record { why = refusal_in q room places image; means = means image; told = is }

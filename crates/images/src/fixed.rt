@@ -1,9 +1,10 @@
-//! The check of an image in memory of a fixed size, on the stack.
+//! The answer for an image in memory of a fixed size, on the stack.
 ghost use Rattle.std.specs.Prelude.{◌≡◌};
 ghost use Rattle.images.specs.Answer.{verdict_in};
 ghost use Rattle.images.specs.Law.{Answers};
 
-use crate::check::check_image;
+use crate::ask::ask_image;
+use crate::question::Question;
 use crate::verdict::Verdict;
 use arena::slot::Slot;
 
@@ -32,28 +33,28 @@ fn blank_slots<const N: usize>() -> [Slot; N] {
 
 /// What is answered for an image in 1,048,576 bytes and 65,536 slots, which take about 2 MiB of stack.
 #[tactic(auto, using(crate::proofs::Meaning::answers))]
-pub fn check(image: &[u8]) -> Verdict
-    ensures answer { result ≡ verdict_in BYTES SLOTS image.now }
-    ensures law { Answers BYTES SLOTS image.now result }
+pub fn ask(question: Question, image: &[u8]) -> Verdict
+    ensures answer { result ≡ verdict_in question BYTES SLOTS image.now }
+    ensures law { Answers question BYTES SLOTS image.now result }
 {
     let mut bytes: [u8; BYTES] = blank_bytes();
     let mut slots: [Slot; SLOTS] = blank_slots();
-    Verdict::of(check_image(&mut bytes, &mut slots, image))
+    Verdict::of(ask_image(question, &mut bytes, &mut slots, image))
 }
 
 /// What is answered for an image in 4,194,304 bytes and 262,144 slots, which take about 8 MiB of stack:
-/// put and checked so many times in the same memory, and at least once, with the last answer.
+/// put and asked of so many times in the same memory, and at least once, with the last answer.
 // More than once only to be measured: no contract tells how often.
 #[tactic(auto, using(crate::proofs::Meaning::answers))]
-pub fn check_large(image: &[u8], times: u32) -> Verdict
-    ensures answer { result ≡ verdict_in LARGE_BYTES LARGE_SLOTS image.now }
-    ensures law { Answers LARGE_BYTES LARGE_SLOTS image.now result }
+pub fn ask_large(question: Question, image: &[u8], times: u32) -> Verdict
+    ensures answer { result ≡ verdict_in question LARGE_BYTES LARGE_SLOTS image.now }
+    ensures law { Answers question LARGE_BYTES LARGE_SLOTS image.now result }
 {
     let mut bytes: [u8; LARGE_BYTES] = blank_bytes();
     let mut slots: [Slot; LARGE_SLOTS] = blank_slots();
-    let mut answer = check_image(&mut bytes, &mut slots, image);
+    let mut answer = ask_image(question, &mut bytes, &mut slots, image);
     for _ in 1..times {
-        answer = check_image(&mut bytes, &mut slots, image);
+        answer = ask_image(question, &mut bytes, &mut slots, image);
     }
     Verdict::of(answer)
 }

@@ -5,11 +5,11 @@ ghost use Rattle.images.specs.declared.refusal.ImageRefusal.TheVariants as image
 use draft::refusal::Refusal;
 use rules::faults::Rejection;
 
-/// Why an image is refused: put refuses one of its records, or the check refuses what they make.
+/// Why an image is refused: put refuses one of its records, or the module that they make is refused.
 #[derive(Clone, Copy)]
 pub enum ImageRefusal {
     Put(Refusal),
-    Check(Rejection),
+    Module(Rejection),
 }
 
 impl From<Refusal> for ImageRefusal {
@@ -21,9 +21,9 @@ impl From<Refusal> for ImageRefusal {
 }
 
 impl From<Rejection> for ImageRefusal {
-    ghost from_gives = { λ e r. r ≡ image_refusal.Check e };
+    ghost from_gives = { λ e r. r ≡ image_refusal.Module e };
 
     fn from(rejection: Rejection) -> ImageRefusal {
-        ImageRefusal::Check(rejection)
+        ImageRefusal::Module(rejection)
     }
 }

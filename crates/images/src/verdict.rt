@@ -37,7 +37,7 @@ impl Verdict {
                 number: u32::from(refusal.number()),
                 ..passed
             },
-            Err(ImageRefusal::Check(rejection)) => Verdict {
+            Err(ImageRefusal::Module(rejection)) => Verdict {
                 number: u32::from(rejection.number()),
                 kind: u32::from(rejection.kind()),
                 first: rejection.first(),
