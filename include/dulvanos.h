@@ -1,9 +1,10 @@
 /*
- * Dulvanos: checks an image of a shader module.
+ * Dulvanos: checks and seals an image of a shader module.
  *
  * Each call puts the records of an image, one after the other, on a new draft. At the first record that put
- * refuses it stops and answers that refusal; else it checks the module that the records make. docs/LIBRARY.md
- * has how to build and link, docs/FORMAT.md what an image is, docs/REFUSALS.md and docs/CHECK.md the numbers.
+ * refuses it stops and answers that refusal; else it checks the module that the records make, or seals it: the
+ * tests of the check and then those that it leaves out. docs/LIBRARY.md has how to build and link,
+ * docs/FORMAT.md what an image is, docs/REFUSALS.md, docs/CHECK.md and docs/SEAL.md the numbers.
  *
  * Memory: a call keeps the records in arrays on its own stack. It allocates nothing, reads the image and
  * nothing else of the caller's, writes nothing of the caller's and keeps nothing for later.
@@ -24,15 +25,15 @@
 extern "C" {
 #endif
 
-/* What dulvanos_check keeps of an image, and what dulvanos_check_large does: so many bytes, and so many
-   records. A record past either is refused with 6. */
+/* What a call keeps of an image, and what dulvanos_check_large and dulvanos_seal_large do: so many bytes, and
+   so many records. A record past either is refused with 6. */
 #define DULVANOS_BYTES 1048576
 #define DULVANOS_SLOTS 65536
 #define DULVANOS_LARGE_BYTES 4194304
 #define DULVANOS_LARGE_SLOTS 262144
 
-/* How much stack a thread needs: dulvanos_check and the five calls beside it, which use a little more than
-   2 MiB, and dulvanos_check_large. */
+/* How much stack a thread needs: for dulvanos_check, dulvanos_seal and the five calls beside each, which use a
+   little more than 2 MiB, and for dulvanos_check_large and dulvanos_seal_large. */
 #define DULVANOS_STACK 4194304
 #define DULVANOS_LARGE_STACK 67108864
 
@@ -46,15 +47,20 @@ enum dulvanos_refusal {
     DULVANOS_MISPLACED = 4,    /* the record may not stand here */
     DULVANOS_TOO_DEEP = 5,     /* it would open a 65th bracket */
     DULVANOS_FULL = 6,         /* too few bytes, no slot or no number is left for it */
-    /* of the check, with four zeros */
+    /* of the check and of sealing, with four zeros */
     DULVANOS_UNFINISHED = 7,   /* a function is open or records wait */
-    /* of the check, with a kind, two numbers and a position */
+    /* of the check and of sealing, with a kind, two numbers and a position */
     DULVANOS_INSIDE = 8,       /* a handle names no item of its table: first is its number, second is 0 */
     DULVANOS_EARLIER = 9,      /* item first depends on item second, which is not earlier */
-    DULVANOS_RANGE = 10        /* the range from first to second is neither empty nor inside */
+    DULVANOS_RANGE = 10,       /* the range from first to second is neither empty nor inside */
+    /* of sealing alone, with a kind, two numbers and a position */
+    DULVANOS_PLACED = 11,         /* global expression first is of a kind that stands in bodies only; second is 0 */
+    DULVANOS_SEALED_INSIDE = 12,  /* a handle names no item of its table, or the number of an argument none: first is
+                                     that number, second is 0 */
+    DULVANOS_SEALED_EARLIER = 13  /* item first names item second, which is not earlier */
 };
 
-/* What first and second count, with refusals 8 to 10. */
+/* What first and second count, with refusals 8 to 13. */
 enum dulvanos_kind {
     DULVANOS_TYPE = 1,
     DULVANOS_CONSTANT = 2,
@@ -76,7 +82,7 @@ struct dulvanos_verdict {
     size_t position;  /* the place, from 0, of the record under test among the kept records, or 0 */
 };
 
-/* The whole answer, in DULVANOS_BYTES bytes and DULVANOS_SLOTS slots. */
+/* The whole answer of the check, in DULVANOS_BYTES bytes and DULVANOS_SLOTS slots. */
 struct dulvanos_verdict dulvanos_check(const uint8_t *image, size_t length);
 
 /* One number of that answer each. Each call checks the image anew. */
@@ -86,10 +92,23 @@ size_t dulvanos_check_first(const uint8_t *image, size_t length);
 size_t dulvanos_check_second(const uint8_t *image, size_t length);
 size_t dulvanos_check_position(const uint8_t *image, size_t length);
 
-/* The whole answer, in DULVANOS_LARGE_BYTES bytes and DULVANOS_LARGE_SLOTS slots. To be called on a thread
-   with a stack of DULVANOS_LARGE_STACK bytes. The records are put and checked so many times in the same
+/* The whole answer of the check, in DULVANOS_LARGE_BYTES bytes and DULVANOS_LARGE_SLOTS slots. To be called on
+   a thread with a stack of DULVANOS_LARGE_STACK bytes. The records are put and checked so many times in the same
    memory, each time on a new draft, and the last answer is given: 1 for use, more to measure; 0 is as 1. */
 struct dulvanos_verdict dulvanos_check_large(const uint8_t *image, size_t length, uint32_t times);
+
+/* The whole answer of sealing, in as much memory as dulvanos_check. */
+struct dulvanos_verdict dulvanos_seal(const uint8_t *image, size_t length);
+
+/* One number of that answer each. Each call seals the image anew. */
+uint32_t dulvanos_seal_number(const uint8_t *image, size_t length);
+uint32_t dulvanos_seal_kind(const uint8_t *image, size_t length);
+size_t dulvanos_seal_first(const uint8_t *image, size_t length);
+size_t dulvanos_seal_second(const uint8_t *image, size_t length);
+size_t dulvanos_seal_position(const uint8_t *image, size_t length);
+
+/* The whole answer of sealing, as dulvanos_check_large has that of the check. */
+struct dulvanos_verdict dulvanos_seal_large(const uint8_t *image, size_t length, uint32_t times);
 
 #ifdef __cplusplus
 }

@@ -1,10 +1,10 @@
 /*
- * Prints what the library answers for images.
+ * Prints what the library answers for images: of the check, and of sealing.
  *
  *     check [--each | --large] [FILE...]
  *
- * FILE is an image; without one, a small image that is built in is checked. --each asks for the five numbers
- * one by one, and --large asks for all in memory for large images, on a thread of its own.
+ * FILE is an image; without one, two small images that are built in are asked of. --each asks for the five
+ * numbers one by one, and --large asks for all in memory for large images, on a thread of its own.
  */
 #include <pthread.h>
 #include <stdio.h>
@@ -14,10 +14,17 @@
 #include "dulvanos.h"
 
 /* A function whose two statements are Emit 5..5, which is empty, and Emit 1..0, which starts behind its end. */
-static const uint8_t built_in[] = {
+static const uint8_t bad_range[] = {
     0x0B, 1, 0, 0, 0, 0xFF, 0xFF, 0xFF, 0xFF, /* Function, by name 1, without a filter leaf */
     0x80, 5, 0, 0, 0, 5, 0, 0, 0,             /* Emit 5..5 */
     0x80, 1, 0, 0, 0, 0, 0, 0, 0,             /* Emit 1..0 */
+    0x1F,                                     /* EndFunction */
+};
+
+/* A function that calls itself: the check passes it, and sealing does not. */
+static const uint8_t call_of_itself[] = {
+    0x0B, 1, 0, 0, 0, 0xFF, 0xFF, 0xFF, 0xFF, /* Function, by name 1, without a filter leaf */
+    0x90, 0, 0, 0, 0, 0xFF, 0xFF, 0xFF, 0xFF, /* Call of function 0, without a result */
     0x1F,                                     /* EndFunction */
 };
 
@@ -26,26 +33,47 @@ struct image {
     size_t length;
 };
 
-typedef struct dulvanos_verdict checker(struct image image);
+/* What is asked: the calls of the check, or those of sealing. */
+struct question {
+    const char *passes;
+    const char *refuses;
+    struct dulvanos_verdict (*whole)(const uint8_t *image, size_t length);
+    uint32_t (*number)(const uint8_t *image, size_t length);
+    uint32_t (*kind)(const uint8_t *image, size_t length);
+    size_t (*first)(const uint8_t *image, size_t length);
+    size_t (*second)(const uint8_t *image, size_t length);
+    size_t (*position)(const uint8_t *image, size_t length);
+    struct dulvanos_verdict (*large)(const uint8_t *image, size_t length, uint32_t times);
+};
 
-static struct dulvanos_verdict check(struct image image)
+static const struct question questions[] = {
+    {"passes", "refused", dulvanos_check, dulvanos_check_number, dulvanos_check_kind, dulvanos_check_first,
+     dulvanos_check_second, dulvanos_check_position, dulvanos_check_large},
+    {"sealed", "not sealed", dulvanos_seal, dulvanos_seal_number, dulvanos_seal_kind, dulvanos_seal_first,
+     dulvanos_seal_second, dulvanos_seal_position, dulvanos_seal_large},
+};
+
+typedef struct dulvanos_verdict way(const struct question *question, struct image image);
+
+static struct dulvanos_verdict ask(const struct question *question, struct image image)
 {
-    return dulvanos_check(image.bytes, image.length);
+    return question->whole(image.bytes, image.length);
 }
 
-static struct dulvanos_verdict check_each(struct image image)
+static struct dulvanos_verdict ask_each(const struct question *question, struct image image)
 {
     struct dulvanos_verdict verdict;
-    verdict.number = dulvanos_check_number(image.bytes, image.length);
-    verdict.kind = dulvanos_check_kind(image.bytes, image.length);
-    verdict.first = dulvanos_check_first(image.bytes, image.length);
-    verdict.second = dulvanos_check_second(image.bytes, image.length);
-    verdict.position = dulvanos_check_position(image.bytes, image.length);
+    verdict.number = question->number(image.bytes, image.length);
+    verdict.kind = question->kind(image.bytes, image.length);
+    verdict.first = question->first(image.bytes, image.length);
+    verdict.second = question->second(image.bytes, image.length);
+    verdict.position = question->position(image.bytes, image.length);
     return verdict;
 }
 
 /* What a thread is given, and what it answers. */
 struct job {
+    const struct question *question;
     struct image image;
     struct dulvanos_verdict verdict;
 };
@@ -53,7 +81,7 @@ struct job {
 static void *run_job(void *given)
 {
     struct job *job = given;
-    job->verdict = dulvanos_check_large(job->image.bytes, job->image.length, 1);
+    job->verdict = job->question->large(job->image.bytes, job->image.length, 1);
     return NULL;
 }
 
@@ -63,9 +91,9 @@ static void fail(const char *what)
     exit(2);
 }
 
-static struct dulvanos_verdict check_large(struct image image)
+static struct dulvanos_verdict ask_large(const struct question *question, struct image image)
 {
-    struct job job = {image, {0, 0, 0, 0, 0}};
+    struct job job = {question, image, {0, 0, 0, 0, 0}};
     pthread_attr_t attributes;
     pthread_t thread;
     if (pthread_attr_init(&attributes) != 0
@@ -77,15 +105,25 @@ static struct dulvanos_verdict check_large(struct image image)
     return job.verdict;
 }
 
-static void show(const char *name, struct dulvanos_verdict verdict)
+static void show_answer(const struct question *question, struct dulvanos_verdict verdict)
 {
     if (verdict.number == DULVANOS_PASSES)
-        printf("%s: passes\n", name);
+        printf("%s", question->passes);
     else if (verdict.number <= DULVANOS_UNFINISHED)
-        printf("%s: refused with %u\n", name, (unsigned)verdict.number);
+        printf("%s with %u", question->refuses, (unsigned)verdict.number);
     else
-        printf("%s: refused with %u, kind %u, numbers %zu and %zu, position %zu\n", name, (unsigned)verdict.number,
+        printf("%s with %u, kind %u, numbers %zu and %zu, position %zu", question->refuses, (unsigned)verdict.number,
                (unsigned)verdict.kind, verdict.first, verdict.second, verdict.position);
+}
+
+/* What both questions answer for an image. */
+static void show(const char *name, way *chosen, struct image image)
+{
+    printf("%s: ", name);
+    show_answer(&questions[0], chosen(&questions[0], image));
+    printf("; ");
+    show_answer(&questions[1], chosen(&questions[1], image));
+    printf("\n");
 }
 
 /* All bytes of a file, to be freed; never NULL. */
@@ -115,23 +153,22 @@ static uint8_t *read_file(const char *name, size_t *length)
 int main(int count, char **words)
 {
     int next = 1;
-    checker *chosen = check;
+    way *chosen = ask;
     if (next < count && strcmp(words[next], "--each") == 0) {
-        chosen = check_each;
+        chosen = ask_each;
         next++;
     } else if (next < count && strcmp(words[next], "--large") == 0) {
-        chosen = check_large;
+        chosen = ask_large;
         next++;
     }
     if (next == count) {
-        struct image image = {built_in, sizeof built_in};
-        show("built in", chosen(image));
+        show("bad range", chosen, (struct image){bad_range, sizeof bad_range});
+        show("call of itself", chosen, (struct image){call_of_itself, sizeof call_of_itself});
     }
     for (; next < count; next++) {
         size_t length;
         uint8_t *bytes = read_file(words[next], &length);
-        struct image image = {bytes, length};
-        show(words[next], chosen(image));
+        show(words[next], chosen, (struct image){bytes, length});
         free(bytes);
     }
     return 0;

@@ -1,6 +1,6 @@
 #!/usr/bin/env bash
-# Proves and builds the library, compiles check.c with it, and compares what it prints for some stored images,
-# by each of the three ways to ask, with the file stdout beside this one.
+# Proves and builds the library, compiles check.c with it, and compares what it answers for some stored images,
+# of the check and of sealing, by each of the three ways to ask, with the file stdout beside this one.
 set -euo pipefail
 here=$(cd "$(dirname "$0")" && pwd)
 root=$(cd "$here/../.." && pwd)
@@ -11,7 +11,8 @@ trap 'rm -rf "$work"' EXIT
 cd "$root/crates/modseal/data"
 for way in "" --each --large; do
     { "$work/check" $way && "$work/check" $way every_kind.img no_such_kind.img wrong_length.img bad_field.img out_of_place.img \
-        too_deep.img unfinished.img not_inside.img not_earlier.img bad_range.img; } | diff "$here/stdout" - \
+        too_deep.img unfinished.img not_inside.img not_earlier.img bad_range.img sealed.img global_argument.img \
+        global_type.img argument_number.img product_before_operand.img call_of_later.img; } | diff "$here/stdout" - \
         || { echo "examples/c: other answers with '$way'" >&2; exit 1; }
 done
 cat "$here/stdout"
