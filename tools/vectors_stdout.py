@@ -56,10 +56,8 @@ def joined(numbers):
 
 with open(STDIN) as images, open(STDOUT) as answers:
     pairs = [(bytes.fromhex(image), naga_numbers(line)) for image, line in zip(images, answers, strict=True)]
-only_sealing = 0
+both = [(naga, sealed(image, naga)) for image, naga in pairs]
 with open(STDOUT, "w") as answers:
-    for image, naga in pairs:
-        answer = sealed(image, naga)
-        only_sealing += naga != answer[:4]
+    for naga, answer in both:
         answers.write(f"check {joined(naga)} seal {joined(answer)}\n")
-print(len(pairs), "images; only sealing refuses", only_sealing)
+print(len(both), "images; only sealing refuses", sum(naga != answer[:4] for naga, answer in both))
