@@ -1,0 +1,2 @@
+//! What sealing promises of a module.
+#![tactic(auto)]
