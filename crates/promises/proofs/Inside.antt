@@ -1,5 +1,5 @@
 -- Every handle of a sealed module is inside.
-use Rattle.std.proofs.Common.{◌≡◌, ℕ, suc, ◌+◌, ◌-◌, ◌<◌, ◌≤◌, Bool, true, false, cond, not, ◌&&◌, ◌||◌, nat_lt, eqb, List, [], ◌∷◌, ◌++◌, map, filter, length, drop, flat_map, Some, None, Ok, Option, sym, refl, ap, ◌∙◌, subst, inl, inr, ◌⊎◌, arith, ltb-true}
+use Rattle.std.proofs.Common.{◌≡◌, ℕ, suc, ◌+◌, ◌-◌, ◌<◌, ◌≤◌, Bool, true, false, cond, not, ◌&&◌, ◌||◌, nat_lt, eqb, List, [], ◌∷◌, ◌++◌, map, filter, length, take, drop, flat_map, Some, None, Ok, Option, sym, refl, ap, ◌∙◌, subst, inl, inr, ◌⊎◌, arith, ltb-true}
 use Rattle.std.specs.List.{AllByRecursion}
 use Rattle.std.specs.Option.{option_to_list, is_none, option_map}
 use Rattle.std.proofs.ByRecursion.{All-append, All-weaker}
@@ -79,11 +79,11 @@ only t u = eqb (code t) (code u)
 of_only : (t u : Table) (P : Handle → Type 0) (hs : List Handle) → only t u ≡ true → OfTable t P hs → OfTable u P hs
 of_only t u P hs e a = subst (λ v. OfTable v P hs) (same_code t u e) a
 
-abbrev pieces_allowed : (Table → Bool) → Option Pieces → Bool
+abbrev pub pieces_allowed : (Table → Bool) → Option Pieces → Bool
 pieces_allowed allowed None = true
 pieces_allowed allowed (Some p) = fields_allowed allowed (layout (piece_kind p))
 
-pieces_are_allowed : (allowed : Table → Bool) (p : Option Pieces) (ts : List Record) → PiecesAre p ts → pieces_allowed allowed p ≡ true → All (Allowed allowed) (flat_map handles_of ts)
+pub pieces_are_allowed : (allowed : Table → Bool) (p : Option Pieces) (ts : List Record) → PiecesAre p ts → pieces_allowed allowed p ≡ true → All (Allowed allowed) (flat_map handles_of ts)
 pieces_are_allowed allowed None ts h e = subst (λ l. All (Allowed allowed) (flat_map handles_of l)) (sym h) tt
 pieces_are_allowed allowed (Some p) ts h e =
     all_flat (Allowed allowed) handles_of ts
@@ -133,11 +133,11 @@ type_layouts : (y : TypeInner) → fields_allowed type_tables (layout (kind.Type
 type_layouts type.Scalar = refl
 type_layouts y = refl
 
-type_takes : (y : TypeInner) → pieces_allowed (only table.Types) (taken_by_type y) ≡ true
+pub type_takes : (y : TypeInner) → pieces_allowed (only table.Types) (taken_by_type y) ≡ true
 type_takes type.Scalar = refl
 type_takes y = refl
 
-one_size : (y : TypeInner) → fields_most table.Overrides (layout (kind.Type y)) ≤ 1
+pub one_size : (y : TypeInner) → fields_most table.Overrides (layout (kind.Type y)) ≤ 1
 one_size type.Scalar = omega arith
 one_size y = omega arith
 
@@ -169,7 +169,7 @@ global_tables table.Overrides = true
 global_tables table.Expressions = true
 global_tables _ = false
 
-expression_takes : (y : Expression) → pieces_allowed (only table.Expressions) (taken_by_expression y) ≡ true
+pub expression_takes : (y : Expression) → pieces_allowed (only table.Expressions) (taken_by_expression y) ≡ true
 expression_takes expression.Literal = refl
 expression_takes y = refl
 
@@ -190,6 +190,14 @@ global_layouts expression.LocalVariable i s e = let f = third (is 73 i) (is 74 i
 global_layouts expression.CallResult i s e = let f = fourth (is 73 i) (is 74 i) (is 75 i) (is 87 i) e in absurd cc
 global_layouts y i s e = refl
 
+pub one_constant : (y : Expression) → fields_most table.Constants (layout (kind.Expression y)) ≤ 1
+one_constant expression.Literal = omega arith
+one_constant y = omega arith
+
+pub one_override : (y : Expression) → fields_most table.Overrides (layout (kind.Expression y)) ≤ 1
+one_override expression.Literal = omega arith
+one_override y = omega arith
+
 constant_or_none : (y : Expression) → (y ≡ expression.Constant) ⊎ (fields_most table.Constants (layout (kind.Expression y)) ≡ 0)
 constant_or_none expression.Constant = inl refl
 constant_or_none y = inr refl
@@ -206,35 +214,40 @@ none_hold : (P : ℕ → Type 0) (ns : List ℕ) → ns ≡ [] → All P ns
 none_hold P ns e = subst (All P) (sym e) tt
 
 module _ (m : Module) where
-  -- the constants and the overrides that it names
-  constants_named : (x : ℕ) (i : Item) (y : Expression) → judged i.bytes ≡ Ok (kind.Expression y) → AllHold (const_expression_tests m x i) → All (λ c. c < length m.constants) (numbers table.Constants (handles_of i.bytes))
-  constants_named x i y j h =
-      let ns = numbers table.Constants (handles_of i.bytes) in
+  -- the tests of the constants and of the overrides that it names
+  pub constants_tested : (x : ℕ) (i : Item) (y : Expression) → judged i.bytes ≡ Ok (kind.Expression y) → AllHold (const_expression_tests m x i) → All (λ c. AllHold (constant_tests m x i.place c)) (own table.Constants i)
+  constants_tested x i y j h =
       elim (constant_or_none y) [
         | inl e ↦
             let k : judged i.bytes ≡ Ok (kind.Expression expression.Constant) = subst (λ z. judged i.bytes ≡ Ok (kind.Expression z)) e j in
             let at : is Constant i ≡ true = starts_is i.bytes (kind.Expression expression.Constant) k in
             let tests : AllHold (flat_map (constant_tests m x i.place) (own table.Constants i)) = rw at at h in
-            subst (All (λ c. c < length m.constants)) (own_is table.Constants i.bytes (kind.Expression expression.Constant) k (omega arith))
-            (All-weaker (λ c. AllHold (constant_tests m x i.place c)) (λ c. c < length m.constants) (λ c q. ltb-true c (length m.constants) q.0) (own table.Constants i)
-            (hold_each (constant_tests m x i.place) (own table.Constants i) tests))
-        | inr e ↦ none_hold (λ c. c < length m.constants) ns (none_are table.Constants i.bytes (kind.Expression y) j e)
+            hold_each (constant_tests m x i.place) (own table.Constants i) tests
+        | inr e ↦ none_hold (λ c. AllHold (constant_tests m x i.place c)) (own table.Constants i) (ap (take 1) (none_are table.Constants i.bytes (kind.Expression y) j e))
       ]
 
-  overrides_named : (x : ℕ) (i : Item) (y : Expression) → judged i.bytes ≡ Ok (kind.Expression y) → AllHold (const_expression_tests m x i) → All (λ c. c < length m.overrides) (numbers table.Overrides (handles_of i.bytes))
-  overrides_named x i y j h =
-      let ns = numbers table.Overrides (handles_of i.bytes) in
+  pub overrides_tested : (x : ℕ) (i : Item) (y : Expression) → judged i.bytes ≡ Ok (kind.Expression y) → AllHold (const_expression_tests m x i) → All (λ o. AllHold (override_tests m x i.place o)) (own table.Overrides i)
+  overrides_tested x i y j h =
       elim (override_or_none y) [
         | inl e ↦
             let k : judged i.bytes ≡ Ok (kind.Expression expression.Override) = subst (λ z. judged i.bytes ≡ Ok (kind.Expression z)) e j in
             let other : is Constant i ≡ false = ap (starts_with Constant) (starts_so (kind.Expression expression.Override) i.bytes k).1 in
             let at : is Override i ≡ true = starts_is i.bytes (kind.Expression expression.Override) k in
             let tests : AllHold (flat_map (override_tests m x i.place) (own table.Overrides i)) = rw (other, at) at h in
-            subst (All (λ c. c < length m.overrides)) (own_is table.Overrides i.bytes (kind.Expression expression.Override) k (omega arith))
-            (All-weaker (λ c. AllHold (override_tests m x i.place c)) (λ c. c < length m.overrides) (λ c q. ltb-true c (length m.overrides) q.0) (own table.Overrides i)
-            (hold_each (override_tests m x i.place) (own table.Overrides i) tests))
-        | inr e ↦ none_hold (λ c. c < length m.overrides) ns (none_are table.Overrides i.bytes (kind.Expression y) j e)
+            hold_each (override_tests m x i.place) (own table.Overrides i) tests
+        | inr e ↦ none_hold (λ o. AllHold (override_tests m x i.place o)) (own table.Overrides i) (ap (take 1) (none_are table.Overrides i.bytes (kind.Expression y) j e))
       ]
+
+  -- they are inside
+  constants_named : (x : ℕ) (i : Item) (y : Expression) → judged i.bytes ≡ Ok (kind.Expression y) → AllHold (const_expression_tests m x i) → All (λ c. c < length m.constants) (numbers table.Constants (handles_of i.bytes))
+  constants_named x i y j h =
+      subst (All (λ c. c < length m.constants)) (own_is table.Constants i.bytes (kind.Expression y) j (one_constant y))
+      (All-weaker (λ c. AllHold (constant_tests m x i.place c)) (λ c. c < length m.constants) (λ c q. ltb-true c (length m.constants) q.0) (own table.Constants i) (constants_tested x i y j h))
+
+  overrides_named : (x : ℕ) (i : Item) (y : Expression) → judged i.bytes ≡ Ok (kind.Expression y) → AllHold (const_expression_tests m x i) → All (λ o. o < length m.overrides) (numbers table.Overrides (handles_of i.bytes))
+  overrides_named x i y j h =
+      subst (All (λ o. o < length m.overrides)) (own_is table.Overrides i.bytes (kind.Expression y) j (one_override y))
+      (All-weaker (λ o. AllHold (override_tests m x i.place o)) (λ o. o < length m.overrides) (λ o q. ltb-true o (length m.overrides) q.0) (own table.Overrides i) (overrides_tested x i y j h))
 
   abbrev ConstTested : Item → Type 0
   ConstTested i = (x : ℕ) × AllHold (const_expression_tests m x i)
