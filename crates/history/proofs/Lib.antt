@@ -3,3 +3,4 @@ pub mod Growing
 pub mod Knowing
 pub mod Staying
 pub mod Replaying
+pub mod Promising

@@ -228,7 +228,7 @@ module _ (room places : ℕ) where
         let same : n.index ≡ o.index = answers_known then q l o then_on.accepted y n.index (known_like 0 (state then).built.types (item_of (state then) q) (item_of (state m) r) (sym e.0) (sym e.1) ∙ kn) (case_now then q l (handle.Type o) then_on.accepted y) in
         ap numbered same
 
-  run_accepted : (rs : List Record) → Accepted start (run room places [] rs)
+  pub run_accepted : (rs : List Record) → Accepted start (run room places [] rs)
   run_accepted rs = (run_on [] rs tt).accepted
 
 pub numbers_stay : (room places : ℕ) → NumbersStay room places

@@ -14,6 +14,7 @@ use Rattle.history.specs.declared.calls.Outcome.TheVariants as outcome
 use Rattle.draft.specs.State.{state}
 use Rattle.valid.specs.Check.{verdict_of}
 use Rattle.sealing.specs.Seal.{seal_of}
+use Rattle.promises.specs.Promises.{Promises}
 use Rattle.history.specs.Runs.{put_kept, run, StillNamed, OneNumber}
 
 -- the records that calls put: a check and a seal put none
@@ -66,6 +67,14 @@ EachSeal room places calls answers =
     (earlier later : List Call) → calls ≡ earlier ++ (call.Seal ∷ later)
     → slice_get answers (length earlier) ≡ Some (Some (sealed (run room places [] (puts_of earlier))))
 
+-- wherever a seal stands that accepted, what sealing promises holds of the records that were kept there: every handle is
+-- inside, and there is a row
+abbrev pub EachPromise : ℕ → ℕ → List Call → List (Option Outcome) → Type 0
+EachPromise room places calls answers =
+    (earlier later : List Call) → calls ≡ earlier ++ (call.Seal ∷ later)
+    → slice_get answers (length earlier) ≡ Some (Some (outcome.Sealed (Ok tt)))
+    → Promises (run room places [] (puts_of earlier))
+
 -- how many calls are made: no more than there are places for their answers
 abbrev pub made : List Call → List (Option Outcome) → ℕ
 made calls answers = min (length calls) (length answers)
@@ -93,3 +102,5 @@ pub record Replayed (calls : List Call) (answers : List (Option Outcome)) (bytes
   pub verdicts : EachVerdict (length bytes) (length slots) (made_of calls answers) answers'
   -- and every seal that of sealing it
   pub seals : EachSeal (length bytes) (length slots) (made_of calls answers) answers'
+  -- and where one accepted, every handle is inside and there is a row
+  pub promises : EachPromise (length bytes) (length slots) (made_of calls answers) answers'

@@ -5,3 +5,4 @@ pub mod Among
 pub mod Listed
 pub mod Ranks
 pub mod Rows
+pub mod Promises

@@ -8,10 +8,11 @@ use Rattle.arena.specs.Memory.{Stands, records}
 use Rattle.sealing.specs.Seal.{seal_of}
 use Rattle.sealing.specs.Promised.{TablesEarlier, ExactlyWhenAllHold}
 use Rattle.sealing.specs.Faults.{NoOtherFaults}
+use Rattle.promises.specs.Promises.{Promises}
 use Rattle.seal.specs.declared.sealed.Sealed.{Sealed}
 
 -- its counts, bytes and slots are these, and as the draft's last call left them; sealing accepts the records that they
--- hold, and in each of the five node tables every operand is earlier
+-- hold, in each of the five node tables every operand is earlier, every handle is inside, and there is a row
 pub record IsSealed (s : Sealed) (d : Draft) (bytes : List ℕ) (slots : List Slot) : Type 0 where
   pub draft_is : s.draft.now ≡ d
   pub bytes_are : s.bytes.now ≡ bytes
@@ -19,6 +20,7 @@ pub record IsSealed (s : Sealed) (d : Draft) (bytes : List ℕ) (slots : List Sl
   pub stands : Stands d bytes slots
   pub accepted : seal_of (state (records d bytes slots)) ≡ None
   pub earlier : TablesEarlier (state (records d bytes slots)).built
+  pub promises : Promises (records d bytes slots)
 
 -- of the answers for a module: none is a fault exactly when every test passes, and there are no other faults than those
 -- that are listed

@@ -6,6 +6,7 @@ use Rattle.history.specs.Calls.{outcome_of, kept_by, outcomes, made, made_of, pu
 use Rattle.history.specs.Runs.{run}
 use Rattle.history.proofs.Replaying.{run_more, answers_more, still_named, one_number_in, each_verdict, each_seal}
 use Rattle.history.proofs.Staying.{numbers_stay}
+use Rattle.history.proofs.Promising.{each_promise}
 use Rattle.history.proofs.replay.replay.Goals as goal
 
 pub loop-place-preserved : goal.loop-place-preserved
@@ -39,4 +40,5 @@ returns c =
       types = one_number_in _ _ law (put_by calls answers);
       verdicts = each_verdict _ _ (made_of calls answers) _ _ answered;
       seals = each_seal _ _ (made_of calls answers) _ _ answered;
+      promises = each_promise _ _ (made_of calls answers) _ _ answered;
     }

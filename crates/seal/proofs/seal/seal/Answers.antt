@@ -13,6 +13,7 @@ use Rattle.valid.specs.Check.{verdict_of}
 use Rattle.sealing.specs.Seal.{seal_tests}
 use Rattle.sealing.specs.Once.{seal_once_tests}
 use Rattle.sealing.proofs.Promised.{sealed_earlier}
+use Rattle.promises.proofs.Promises.{sealed_promises}
 use Rattle.seal.proofs.Sealing.{laws_hold, refused_too, passes, answered, accepted, module_same, tests_same}
 use Rattle.seal.proofs.seal.seal.Goals as goal
 use Rattle.seal.proofs.seal.seal.Goals.{In_ok-check}
@@ -72,11 +73,13 @@ pub returns-clause-sealed : goal.returns-clause-sealed
 returns-clause-sealed c =
     let at = (goal.at.returns-clause-sealed c).In_ok-check in
     let passed = sym (tests at) ∙ sym (c.in_ok-seal_module.ensures {u = tt}) in
+    let accepts = answered (state (m at)) (done at) (none at) ∙ ap (option_map Faulty) passed in
     record {
       draft_is = refl;
       bytes_are = refl;
       slots_are = refl;
       stands = c.requires;
-      accepted = answered (state (m at)) (done at) (none at) ∙ ap (option_map Faulty) passed;
+      accepted = accepts;
       earlier = sealed_earlier (state (m at)).built (accepted (state (m at)) (done at) (none at) passed);
+      promises = sealed_promises (m at) c.requires.accepted accepts;
     }
