@@ -6,3 +6,4 @@ pub mod Listed
 pub mod Ranks
 pub mod Rows
 pub mod Promises
+pub mod Samples
