@@ -1,2 +1,4 @@
-//! What sealing promises of a module.
+//! What sealing promises of a draft, and why: theorems on its definition.
 #![tactic(auto)]
+
+pub mod small;
