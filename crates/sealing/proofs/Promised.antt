@@ -22,7 +22,8 @@ use Rattle.rules.proofs.Verdict.{verdict}
 use Rattle.tables.specs.Tables.{node_of, records_of, callees, function_node}
 use Rattle.tables.proofs.Numbers.{numbers_append}
 use Rattle.sealing.specs.Seal.{global_tests, pending_tests as sized_tests, body_tests, calls, call_tests, other_tests, inner_then_other_tests, seal_tests, all_tests, seal}
-use Rattle.sealing.specs.Promised.{OperandsEarlier, TablesEarlier, ExactlyWhenAllHold, InitsInside, ResultsEarlier}
+use Rattle.walk.specs.Rule.{OperandsEarlier}
+use Rattle.sealing.specs.Promised.{TablesEarlier, ExactlyWhenAllHold, InitsInside, ResultsEarlier}
 
 pub exactly : (m : Module) → ExactlyWhenAllHold m
 exactly m = record { holds = hold_from_none (all_tests m); passes = none_from_hold (all_tests m) }

@@ -1,16 +1,12 @@
 -- What it says of a module that sealing answers no fault.
-use Rattle.std.specs.Prelude.{◌≡◌, ℕ, ◌<◌, List, ◌++◌, length, Some, None}
+use Rattle.std.specs.Prelude.{◌≡◌, ℕ, ◌<◌, ◌++◌, length, Some, None}
 use Rattle.std.specs.List.{AllByRecursion, slice_get}
 use Rattle.rules.specs.Module.{Item, Body, Module}
 use Rattle.rules.specs.Once.{inits}
 use Rattle.rules.specs.Verdict.{AllHold, CallsEarlier}
-use Rattle.node.specs.Nodes.{Node}
+use Rattle.walk.specs.Rule.{OperandsEarlier}
 use Rattle.tables.specs.Tables.{types_nodes, filters_nodes, functions_nodes, expressions_nodes, inner_nodes}
 use Rattle.sealing.specs.Seal.{all_tests, seal}
-
--- every operand of a table is earlier than the item that takes it
-abbrev pub OperandsEarlier : List Node → Type 0
-OperandsEarlier nodes = (n : ℕ) (x : Node) → slice_get nodes n ≡ Some x → AllByRecursion (λ k. k < n) x.operands
 
 -- in each of the five tables, those of the bodies of functions and of entry points alike
 pub record TablesEarlier (m : Module) : Type 0 where

@@ -1,0 +1,3 @@
+pub mod Steps
+pub mod Rule
+pub mod Readings
