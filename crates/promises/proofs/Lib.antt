@@ -7,3 +7,6 @@ pub mod Ranks
 pub mod Rows
 pub mod Promises
 pub mod Samples
+pub mod Opened
+pub mod Standing
+pub mod Kept

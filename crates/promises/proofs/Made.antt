@@ -80,7 +80,7 @@ next_waits k w ws r h e x = refl
 reached_next : (m : List Record) (s : State) (r : Record) (k : Kind) → Admits s r k → Reached s → Reached (stepped k r s)
 reached_next m s r k a x = next_waits k s.waits s.waiting r a.allowed a.kind_is x
 
-reached : (m : List Record) → Accepted start m → Reached (state m)
+pub reached : (m : List Record) → Accepted start m → Reached (state m)
 reached m a = throughout (λ l s. Reached s) reached_next m a refl
 
 -- a record that joins none takes what waits, if that is what it takes, and else nothing waits
@@ -102,7 +102,7 @@ taken_so n (Some p) ws h j x = same_sort p n.takes ws (sym (ap (λ o. option_eq 
 pub made : (s : State) (r : Record) (k : Kind) → Admits s r k → Reached s → (manner_of k).joins ≡ None → Made k (item_of s r)
 made s r k a x j = record { kind_is = a.kind_is; taken = taken_so (manner_of k) s.waits s.waiting a.allowed j x }
 
-wanted_is : (sec : Section) (s : State) (r : Record) (k : Kind) → judged r ≡ Ok k → selects sec s r ≡ wanted sec s.opened k
+pub wanted_is : (sec : Section) (s : State) (r : Record) (k : Kind) → judged r ≡ Ok k → selects sec s r ≡ wanted sec s.opened k
 wanted_is (Numbered t) s r k e = ap (λ j. same_table t (table_judged s j)) e
 wanted_is (Kinds low high) s r k e = ap (of_kinds low high) (starts_so k r e).1
 
@@ -110,7 +110,7 @@ accepted_back : (s : State) (m n : List Record) → Accepted s (m ++ n) → Acce
 accepted_back s [] n a = a
 accepted_back s (r ∷ m) n a = accepted_back (step s r) m n a.1
 
-take_front : (n k : ℕ) (xs : List Record) → n ≤ k → take n (take k xs) ≡ take n xs
+pub take_front : (n k : ℕ) (xs : List Record) → n ≤ k → take n (take k xs) ≡ take n xs
 take_front zero k xs l = refl
 take_front (suc n) zero xs l = absurd (omega arith)
 take_front (suc n) (suc k) [] l = refl
@@ -204,7 +204,7 @@ only_type None (kind.Expression x) e = absurd cc
 only_type (Some b) (kind.Expression x) e = absurd cc
 only_type o k e = absurd cc
 
-only_expression : (o : Option BodyKind) (k : Kind) → wanted (Numbered table.Expressions) o k ≡ true → (x : Expression) × (k ≡ kind.Expression x)
+pub only_expression : (o : Option BodyKind) (k : Kind) → wanted (Numbered table.Expressions) o k ≡ true → (x : Expression) × (k ≡ kind.Expression x)
 only_expression o (kind.Expression x) e = (x, refl)
 only_expression o k e = absurd cc
 
@@ -296,7 +296,7 @@ pub record ModuleMade (m : Module) : Type 0 where
   pub functions : AllByRecursion (BodyMade kind.Function) m.functions
   pub entries : AllByRecursion (BodyMade kind.EntryPoint) m.entries
 
-last_are : (P : Item → Type 0) (items : List Item) → AllByRecursion P items → AllByRecursion P (option_to_list (last_of items))
+pub last_are : (P : Item → Type 0) (items : List Item) → AllByRecursion P items → AllByRecursion P (option_to_list (last_of items))
 last_are P [] h = tt
 last_are P (i ∷ []) h = h
 last_are P (i ∷ j ∷ items) h = last_are P (j ∷ items) h.1

@@ -1,4 +1,5 @@
 pub mod Inside
+pub mod Kept
 pub mod Rows
 pub mod Promises
 pub mod Samples

@@ -1,0 +1,36 @@
+-- Every handle of every kept record of a sealed draft is inside, in the right body.
+use Rattle.std.specs.Prelude.{◌≡◌, ℕ, ◌<◌, ◌≤◌, ◌⊎◌, List, ◌++◌, Some, None, Option}
+use Rattle.std.specs.List.{AllByRecursion, slice_get}
+use Rattle.records.specs.Handles.{handles_of}
+use Rattle.rules.specs.Module.{Record, Item, Body, Module}
+use Rattle.rules.specs.Sizes.{sizes, sizes_in}
+use Rattle.draft.specs.State.{start, state}
+use Rattle.draft.specs.Admitted.{Accepted}
+use Rattle.laws.specs.Decoded.{Replaced}
+use Rattle.sealing.specs.Seal.{seal_of}
+use Rattle.row.specs.Row.{Has}
+use Rattle.promises.specs.Inside.{IsInside}
+
+-- a place is not behind the item, which there is
+abbrev pub UpTo : Option Item → ℕ → Type 0
+UpTo None p = ⊥
+UpTo (Some i) p = p ≤ i.place
+
+-- a place is behind the record that opens a body, up to the one that ends it
+abbrev pub StandsIn : Body → ℕ → Type 0
+StandsIn b p = (b.opener.place < p) × UpTo b.ending p
+
+-- the record at a place of the draft of a module
+pub record RecordInside (m : Module) (p : ℕ) (r : Record) : Type 0 where
+  -- in a function or an entry point it names the expressions and the local variables of that body
+  pub within : (b : Body) → Has (m.functions ++ m.entries) b → StandsIn b p → AllByRecursion (IsInside (sizes_in (sizes m) b)) (handles_of r)
+  -- and outside of all bodies those of the module
+  pub outside : ((b : Body) → Has (m.functions ++ m.entries) b → StandsIn b p → ⊥) → AllByRecursion (IsInside (sizes m)) (handles_of r)
+
+-- so it is with every kept record of every draft that sealing accepts, unless a later record replaced it: special types, a
+-- leaf and a body's result are replaced by those that come later
+abbrev pub SealedKept : Type 0
+SealedKept =
+    (records : List Record) → Accepted start records → seal_of (state records) ≡ None
+    → (p : ℕ) (r : Record) → slice_get records p ≡ Some r
+    → Replaced (state records) (p, r) ⊎ RecordInside (state records).built p r
