@@ -1,6 +1,6 @@
 #!/usr/bin/env bash
 # Which callers of sealing do not compile. The edits that the gate tries must reach the prover, and these are stopped by
-# the compiler before it: so a caller is built as it stands, then with the edit that the compiler must accept, and then
+# the compiler before it: so a caller (tools/rejections/caller.source) is built as it stands, then with the edit that the compiler must accept, and then
 # with each of those that it must reject, and its message is looked for. Run from anywhere: bash tools/rejections.sh
 set -euo pipefail
 cd "$(dirname "$0")/.."
@@ -20,8 +20,8 @@ failed=0
 
 # Puts the caller in place, with an edit if one is named.
 place() {
-    rm -rf "$work/crates/caller"
-    cp -r $edits/caller "$work/crates/caller"
+    mkdir -p "$work/crates/caller/src"
+    cp $edits/caller.source "$work/crates/caller/src/main.rt"
     if [ $# -eq 0 ]; then return; fi
     python3 - "$1" "$work/crates/caller/src/main.rt" <<'PY'
 import sys
