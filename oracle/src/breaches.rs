@@ -212,46 +212,61 @@ fn body(callee: Option<u32>) -> Records {
     records
 }
 
-/// What a global expression of `sizes` names a type by.
-const NAMING: [u8; 7] = [65, 66, 67, 68, 88, 89, 95];
-
-/// Two types whose sizes are overrides, and one of three global expressions that names each type in each way.
+/// Two types whose sizes are overrides, and three global expressions of which one names a type: with each init of the
+/// overrides, each type and each way to name it, in each place.
 fn sizes() -> Vec<Vec<u8>> {
     let mut images = Vec::new();
-    for (first, second) in [
-        (array as fn(_, _, _) -> _, binding_array as fn(_, _, _) -> _),
-        (binding_array, array),
-    ] {
-        for inits in [0, 1, 2, 3, ABSENT]
-            .into_iter()
-            .flat_map(|one| [0, 2, ABSENT].map(|other| [one, other]))
-        {
-            for naming in NAMING {
-                for place in 0..3 {
-                    for ty in 0..6 {
-                        let mut records = vec![
-                            words(16, &[10, 1]),
-                            first(11, 0, 0),
-                            words(16, &[12, 1]),
-                            second(13, 0, 1),
-                            words(16, &[14, 1]),
-                            words(3, &[1, 1, 0, inits[0]]),
-                            words(3, &[2, 2, 0, inits[1]]),
-                            words(3, &[3, 3, ty, ABSENT]),
-                            words(4, &[1, ty, 0]),
-                        ];
-                        records.extend((0..3).map(|number| match naming {
-                            _ if number != place => words(64, &[1]),
-                            65 => words(65, &[0]),
-                            66 => words(66, &[2]),
-                            88 => flagged(88, ty),
-                            _ => words(naming, &[ty]),
-                        }));
-                        images.push(records.concat());
-                    }
+    for first in [0, 1, 2, 3, ABSENT] {
+        for second in [0, 2, ABSENT] {
+            for ty in 0..6 {
+                for expressions in namings(ty) {
+                    let arrays = [array(11, 0, 0), binding_array(13, 0, 1)];
+                    images.push(sized(arrays, [first, second], ty, &expressions));
+                    let arrays = [binding_array(11, 0, 0), array(13, 0, 1)];
+                    images.push(sized(arrays, [first, second], ty, &expressions));
                 }
             }
         }
     }
     images
+}
+
+/// Three expressions of which one names this type, itself or by constant 0 or override 2 of `sized`.
+fn namings(ty: u32) -> Vec<Records> {
+    let naming = [
+        words(65, &[0]),
+        words(66, &[2]),
+        words(67, &[ty]),
+        words(68, &[ty]),
+        flagged(88, ty),
+        words(89, &[ty]),
+        words(95, &[ty]),
+    ];
+    let mut lists = Vec::new();
+    for record in naming {
+        for place in 0..3 {
+            let mut list = vec![words(64, &[1]); 3];
+            list[place] = record.clone();
+            lists.push(list);
+        }
+    }
+    lists
+}
+
+/// A module of two arrays sized by overrides with these inits, a constant and an override of a type, and expressions.
+fn sized(arrays: [Vec<u8>; 2], inits: [u32; 2], ty: u32, expressions: &[Vec<u8>]) -> Vec<u8> {
+    let [first, second] = arrays;
+    let mut records = vec![
+        words(16, &[10, 1]),
+        first,
+        words(16, &[12, 1]),
+        second,
+        words(16, &[14, 1]),
+        words(3, &[1, 1, 0, inits[0]]),
+        words(3, &[2, 2, 0, inits[1]]),
+        words(3, &[3, 3, ty, ABSENT]),
+        words(4, &[1, ty, 0]),
+    ];
+    records.extend_from_slice(expressions);
+    records.concat()
 }

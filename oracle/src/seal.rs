@@ -76,6 +76,17 @@ fn size_of(ty: &Type) -> Option<Handle<Override>> {
     }
 }
 
+/// What an `ImageAtomic` compares with.
+fn compared_by(statement: &Statement) -> Option<Handle<Expression>> {
+    match *statement {
+        Statement::ImageAtomic {
+            fun: AtomicFunction::Exchange { compare },
+            ..
+        } => compare,
+        _ => None,
+    }
+}
+
 /// A function, or that of an entry point, with its positions.
 type Body<'a> = (&'a Function, &'a BodyPositions);
 
@@ -221,14 +232,8 @@ impl<'a> Sealing<'a> {
         for (function, positions) in self.bodies() {
             let count = function.expressions.len();
             for placed in statements(function, positions) {
-                if let Statement::ImageAtomic {
-                    fun: AtomicFunction::Exchange { compare },
-                    ..
-                } = *placed.statement
-                {
-                    if let Some(compare) = compare {
-                        inside(kind::EXPRESSION, compare.index(), count, placed.position)?;
-                    }
+                if let Some(compare) = compared_by(placed.statement) {
+                    inside(kind::EXPRESSION, compare.index(), count, placed.position)?;
                 }
             }
         }

@@ -77,60 +77,79 @@ struct Survey {
     module: HashMap<Table, u32>,
 }
 
-impl Survey {
-    fn of(records: &[&[u8]]) -> Survey {
-        let mut survey = Survey {
-            replaced: vec![false; records.len()],
-            ..Survey::default()
+/// The first pass.
+#[derive(Default)]
+struct Surveyor {
+    survey: Survey,
+    /// The bytes of each type and of its members, with its number.
+    types: HashMap<Vec<u8>, u32>,
+    /// The members that wait.
+    members: Vec<u8>,
+    /// Of the records that replace each other in a body or outside, the last.
+    last: HashMap<(Option<usize>, u8), usize>,
+    open: Option<usize>,
+}
+
+impl Surveyor {
+    fn meet(&mut self, at: usize, record: &[u8]) {
+        let kind = record[0];
+        if kind == 31 {
+            self.open = None;
+        }
+        let item = match self.open {
+            Some(body) => {
+                self.survey.bodies[body].count(kind);
+                None
+            }
+            None => self.item(record),
         };
-        let mut types = HashMap::new();
-        let mut members = Vec::new();
-        let mut last = HashMap::new();
-        let mut open = None;
-        for (at, record) in records.iter().enumerate() {
-            let kind = record[0];
-            if kind == 31 {
-                open = None;
-            }
-            survey.body.push(open);
-            let item = match open {
-                Some(body) => {
-                    survey.bodies[body].count(kind);
-                    None
-                }
-                None if kind == 1 => {
-                    members.extend_from_slice(record);
-                    None
-                }
-                None if (16..=29).contains(&kind) => {
-                    let mut whole = std::mem::take(&mut members);
-                    whole.extend_from_slice(record);
-                    let next = types.len() as u32;
-                    let number = *types.entry(whole).or_insert(next);
-                    survey.module.insert(Table::Type, types.len() as u32);
-                    Some((Table::Type, number))
-                }
-                None => table_of(kind).map(|table| (table, survey.next(table))),
-            };
-            survey.item.push(item);
-            if matches!(kind, 6 | 9 | 14) {
-                if let Some(earlier) = last.insert((open, kind), at) {
-                    survey.replaced[earlier] = true;
-                }
-            }
-            if matches!(kind, 11 | 12) {
-                open = Some(survey.bodies.len());
-                survey.bodies.push(Body::default());
+        self.survey.body.push(self.open);
+        self.survey.item.push(item);
+        self.survey.replaced.push(false);
+        if matches!(kind, 6 | 9 | 14) {
+            if let Some(earlier) = self.last.insert((self.open, kind), at) {
+                self.survey.replaced[earlier] = true;
             }
         }
-        survey
+        if matches!(kind, 11 | 12) {
+            self.open = Some(self.survey.bodies.len());
+            self.survey.bodies.push(Body::default());
+        }
     }
 
-    /// The number of the next item of a table of the module.
-    fn next(&mut self, table: Table) -> u32 {
-        let count = self.module.entry(table).or_default();
-        *count += 1;
-        *count - 1
+    /// The item that a record outside of bodies adds.
+    fn item(&mut self, record: &[u8]) -> Option<(Table, u32)> {
+        match record[0] {
+            1 => {
+                self.members.extend_from_slice(record);
+                None
+            }
+            16..=29 => {
+                let mut whole = std::mem::take(&mut self.members);
+                whole.extend_from_slice(record);
+                let next = self.types.len() as u32;
+                let number = *self.types.entry(whole).or_insert(next);
+                let count = self.types.len() as u32;
+                self.survey.module.insert(Table::Type, count);
+                Some((Table::Type, number))
+            }
+            kind => {
+                let table = table_of(kind)?;
+                let count = self.survey.module.entry(table).or_default();
+                *count += 1;
+                Some((table, *count - 1))
+            }
+        }
+    }
+}
+
+impl Survey {
+    fn of(records: &[&[u8]]) -> Survey {
+        let mut surveyor = Surveyor::default();
+        for (at, record) in records.iter().enumerate() {
+            surveyor.meet(at, record);
+        }
+        surveyor.survey
     }
 
     /// How many items a table has, seen from a record.
