@@ -17,7 +17,7 @@ const NUMBERS_EACH: u64 = 64;
 const PROGRESS_EACH: u64 = 100_000;
 
 /// What is wrong with an image.
-enum Fault {
+enum Finding {
     /// The library answers otherwise.
     Differs {
         library: Verdicts,
@@ -27,13 +27,13 @@ enum Fault {
     Flawed(Flaw),
 }
 
-impl fmt::Display for Fault {
+impl fmt::Display for Finding {
     fn fmt(&self, f: &mut fmt::Formatter<'_>) -> fmt::Result {
         match self {
-            Fault::Differs { library, reference } => {
+            Finding::Differs { library, reference } => {
                 write!(f, "library {library} reference {reference}")
             }
-            Fault::Flawed(flaw) => write!(f, "accepted, but {flaw}:"),
+            Finding::Flawed(flaw) => write!(f, "accepted, but {flaw}:"),
         }
     }
 }
@@ -41,7 +41,7 @@ impl fmt::Display for Fault {
 /// An image with what is wrong.
 struct Disagreement {
     image: Vec<u8>,
-    fault: Fault,
+    finding: Finding,
 }
 
 /// What came of the images of one source.
@@ -75,11 +75,11 @@ impl Comparison {
         self.count_image(&image, reference);
         if reference.accepts() {
             if let Some(flaw) = sealed::flaw(&image) {
-                self.disagree(image.clone(), Fault::Flawed(flaw));
+                self.disagree(image.clone(), Finding::Flawed(flaw));
             }
         }
         if library != reference {
-            self.disagree(image, Fault::Differs { library, reference });
+            self.disagree(image, Finding::Differs { library, reference });
         }
     }
 
@@ -98,8 +98,8 @@ impl Comparison {
         }
     }
 
-    fn disagree(&mut self, image: Vec<u8>, fault: Fault) {
-        self.disagreements.push(Disagreement { image, fault });
+    fn disagree(&mut self, image: Vec<u8>, finding: Finding) {
+        self.disagreements.push(Disagreement { image, finding });
     }
 
     fn join(&mut self, other: Comparison) {
@@ -155,7 +155,7 @@ pub fn print(comparisons: &[Comparison]) {
     for found in comparisons.iter().flat_map(|it| &it.disagreements) {
         println!(
             "{} image {}",
-            found.fault,
+            found.finding,
             hexadecimal::encode(&found.image)
         );
     }
