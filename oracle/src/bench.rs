@@ -25,9 +25,10 @@ fn measure(size: usize, order: Order) {
     let records = sample(size, order);
     let count = records.len();
     let image = records.concat();
-    let verdict = reference::verdict(&image, Memory::LARGE);
+    let verdicts = reference::verdicts(&image, Memory::LARGE);
+    let verdict = verdicts.check;
     assert_eq!(verdict.number, 0, "the sample passes: {verdict}");
-    assert_eq!(library::large(&image, 1), verdict);
+    assert_eq!(library::check_large(&image, 1), verdict);
     // A function that is left open: all records are put, and the check answers at once.
     let open = [&image[..], &words(11, &[1, ABSENT])].concat();
     let each = |time: Duration| time.as_nanos() as f64 / count as f64;
@@ -55,7 +56,7 @@ fn measure(size: usize, order: Order) {
 fn time_of_library(image: &[u8]) -> Duration {
     let time = |times| {
         let start = Instant::now();
-        black_box(library::large(black_box(image), times));
+        black_box(library::check_large(black_box(image), times));
         start.elapsed()
     };
     let mut more = 1;

@@ -1,31 +1,59 @@
-//! Both verdicts for many images, counted, and those that differ.
+//! The verdicts for many images, counted, and the images on which they differ or that are accepted with a flaw.
+use crate::contents::Content;
 use crate::decode::Memory;
+use crate::sealed::{self, Flaw};
 use crate::source::Source;
-use crate::verdict::Verdict;
+use crate::verdict::Verdicts;
 use crate::{hexadecimal, library, reference};
 use std::collections::{BTreeMap, BTreeSet};
+use std::fmt;
 use std::sync::atomic::{AtomicU64, Ordering};
 use std::thread;
 
-/// How often the five functions that answer one number each are asked instead: once in so many images.
+/// How often the ten functions that answer one number each are asked instead: once in so many images.
 const NUMBERS_EACH: u64 = 64;
 
 /// How often a long run says how far it is.
 const PROGRESS_EACH: u64 = 100_000;
 
-/// An image on which the verdicts differ.
-pub struct Disagreement {
+/// What is wrong with an image.
+enum Finding {
+    /// The library answers otherwise.
+    Differs {
+        library: Verdicts,
+        reference: Verdicts,
+    },
+    /// Sealing accepts it.
+    Flawed(Flaw),
+}
+
+impl fmt::Display for Finding {
+    fn fmt(&self, f: &mut fmt::Formatter<'_>) -> fmt::Result {
+        match self {
+            Finding::Differs { library, reference } => {
+                write!(f, "library {library} reference {reference}")
+            }
+            Finding::Flawed(flaw) => write!(f, "accepted, but {flaw}:"),
+        }
+    }
+}
+
+/// An image with what is wrong.
+struct Disagreement {
     image: Vec<u8>,
-    library: Verdict,
-    reference: Verdict,
+    finding: Finding,
 }
 
 /// What came of the images of one source.
 #[derive(Default)]
 pub struct Comparison {
     name: &'static str,
-    /// How many images got each number and kind.
+    /// How many images got each number and kind from sealing.
     counted: BTreeMap<(u32, u32), u64>,
+    /// How many images the check passes.
+    passing: u64,
+    /// How many of the accepted images have each content.
+    contents: BTreeMap<Content, u64>,
     images: u64,
     /// The total length of the images.
     bytes: u64,
@@ -38,29 +66,50 @@ impl Comparison {
     }
 
     fn add(&mut self, number: u64, image: Vec<u8>, memory: Memory) {
-        let reference = reference::verdict(&image, memory);
+        let reference = reference::verdicts(&image, memory);
         let library = match memory {
             Memory::LARGE => library::large(&image, 1 + number as u32 % 2),
             _ if number.is_multiple_of(NUMBERS_EACH) => library::numbers(&image),
-            _ => library::verdict(&image),
+            _ => library::verdicts(&image),
         };
+        self.count_image(&image, reference);
+        if reference.accepts() {
+            if let Some(flaw) = sealed::flaw(&image) {
+                self.disagree(image.clone(), Finding::Flawed(flaw));
+            }
+        }
+        if library != reference {
+            self.disagree(image, Finding::Differs { library, reference });
+        }
+    }
+
+    fn count_image(&mut self, image: &[u8], verdicts: Verdicts) {
         self.images += 1;
         self.bytes += image.len() as u64;
-        let pair = (reference.number, reference.kind);
+        let pair = (verdicts.seal.number, verdicts.seal.kind);
         *self.counted.entry(pair).or_default() += 1;
-        if library != reference {
-            self.disagreements.push(Disagreement {
-                image,
-                library,
-                reference,
-            });
+        if verdicts.check.number == 0 {
+            self.passing += 1;
         }
+        if verdicts.accepts() {
+            for content in Content::of(image) {
+                *self.contents.entry(content).or_default() += 1;
+            }
+        }
+    }
+
+    fn disagree(&mut self, image: Vec<u8>, finding: Finding) {
+        self.disagreements.push(Disagreement { image, finding });
     }
 
     fn join(&mut self, other: Comparison) {
         for (pair, count) in other.counted {
             *self.counted.entry(pair).or_default() += count;
         }
+        for (content, count) in other.contents {
+            *self.contents.entry(content).or_default() += count;
+        }
+        self.passing += other.passing;
         self.images += other.images;
         self.bytes += other.bytes;
         self.disagreements.extend(other.disagreements);
@@ -71,11 +120,12 @@ impl Comparison {
     }
 }
 
-/// Prints how often each number and kind came from each source, and each image on which the verdicts differ.
+/// Prints how often each number and kind came from sealing for each source, how often the check passed, what the accepted
+/// images have, and each image with which something is wrong.
 pub fn print(comparisons: &[Comparison]) {
     let row = |head: &str, cells: Vec<String>| {
         let cells: String = cells.iter().map(|cell| format!(" {cell:>10}")).collect();
-        println!("{head:<11}{cells}");
+        println!("{head:<12}{cells}");
     };
     let total = |count: &dyn Fn(&Comparison) -> u64| {
         let counts: Vec<u64> = comparisons.iter().map(count).collect();
@@ -92,20 +142,26 @@ pub fn print(comparisons: &[Comparison]) {
         let head = format!("{:>6} {:>4}", pair.0, pair.1);
         row(&head, total(&|it| it.count(pair)));
     }
+    row("check passes", total(&|it| it.passing));
+    row("accepted", total(&|it| it.count((0, 0))));
+    for content in Content::ALL {
+        let head = format!(" {}", content.name());
+        let count = |it: &Comparison| it.contents.get(&content).copied().unwrap_or(0);
+        row(&head, total(&count));
+    }
     row("images", total(&|it| it.images));
     row("bytes", total(&|it| it.bytes));
     row("differing", total(&|it| it.disagreements.len() as u64));
     for found in comparisons.iter().flat_map(|it| &it.disagreements) {
         println!(
-            "library {} reference {} image {}",
-            found.library,
-            found.reference,
+            "{} image {}",
+            found.finding,
             hexadecimal::encode(&found.image)
         );
     }
 }
 
-/// Both verdicts for all images of a source, by so many threads.
+/// The verdicts for all images of a source, by so many threads.
 pub fn compare(source: &Source, jobs: usize) -> Comparison {
     let next = AtomicU64::new(0);
     let mut whole = Comparison {

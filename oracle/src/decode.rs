@@ -1,7 +1,7 @@
 //! An image decoded into naga's module, with the refusals of put, from docs/FORMAT.md and docs/DRAFTS.md.
 use crate::body::{OpenBody, Opener};
 use crate::image::Parts;
-use crate::positions::{note, Positions};
+use crate::positions::{note, Positions, PredeclaredType};
 use crate::record::Record;
 use crate::refusal::Refusal;
 use naga::{
@@ -262,6 +262,11 @@ impl<const PLACED: bool> Decoder<PLACED> {
                     .special_types
                     .predeclared_types
                     .insert(predeclared, ty);
+                if PLACED {
+                    positions
+                        .predeclared_types
+                        .push(PredeclaredType { ty, position });
+                }
             }
             Record::FilterNode(node) => {
                 module.diagnostic_filters.append(node, Span::default());

@@ -35,6 +35,19 @@ pub fn records(random: &mut Random, scale: Scale) -> Vec<Vec<u8>> {
     records
 }
 
+/// The records of a random image that sealing often accepts.
+pub fn sealable_records(random: &mut Random) -> Vec<Vec<u8>> {
+    let faults = random.pick(&[0, 0, 0, 0, 0, 0, 0, 5]);
+    let plan = Plan::sealable(random);
+    let mut generator = Generator {
+        plan,
+        faults,
+        next_mark: 1000,
+        random,
+    };
+    generator.module()
+}
+
 /// Gives a handle, or an end of a range, another number.
 fn change_one_handle(records: &mut [Vec<u8>], random: &mut Random) {
     for _ in 0..8 {
@@ -70,6 +83,9 @@ struct Plan {
     grouped: bool,
     /// A body has fewer expressions than this, and fewer statements outside of blocks.
     body: usize,
+    /// For a module that sealing is to accept: how many of the first types have no override as size. They are all that
+    /// overrides, and nearly all that constants and global expressions name.
+    plain_types: Option<usize>,
 }
 
 impl Plan {
@@ -89,6 +105,7 @@ impl Plan {
             entry_points: random.below(3),
             grouped: random.chance(400),
             body: if random.chance(30) { 60 } else { 9 },
+            plain_types: None,
         }
     }
 
@@ -105,7 +122,26 @@ impl Plan {
             entry_points: random.below(16) / 15,
             grouped: random.chance(400),
             body: 4,
+            plain_types: None,
         }
+    }
+
+    fn sealable(random: &mut Random) -> Plan {
+        let mut plan = match random.chance(250) {
+            true => Plan::small(random),
+            false => Plan::random(random),
+        };
+        plan.types = plan.types.max(1);
+        plan.plain_types = Some(1 + random.below(plan.types.min(3)));
+        // Mostly late inits, so that a size looks at many expressions.
+        for init in &mut plan.overrides {
+            if plan.global_expressions > 0 && random.chance(700) {
+                let early = random.below(plan.global_expressions);
+                let other = random.below(plan.global_expressions);
+                *init = early.max(other) as u32;
+            }
+        }
+        plan
     }
 }
 
@@ -143,6 +179,8 @@ struct Limits {
     expressions: usize,
     functions: usize,
     filters: usize,
+    /// How many arguments the body has.
+    arguments: usize,
 }
 
 impl Limits {
@@ -279,6 +317,19 @@ impl Generator<'_> {
             expressions: self.plan.global_expressions,
             functions: self.plan.functions,
             filters: self.plan.filters,
+            arguments: 0,
+        }
+    }
+
+    fn sealable(&self) -> bool {
+        self.plan.plain_types.is_some()
+    }
+
+    /// How many types constants and global expressions name: mostly the plain ones, where there is such a bound.
+    fn mostly_plain(&mut self, types: usize) -> usize {
+        match self.plan.plain_types {
+            Some(plain) if !self.random.chance(60) => plain,
+            _ => types,
         }
     }
 
@@ -316,9 +367,10 @@ impl Generator<'_> {
     fn types(&mut self) -> Vec<Chunk> {
         let mut chunks: Vec<Chunk> = Vec::new();
         for number in 0..self.plan.types {
+            let sized = self.plan.plain_types.is_none_or(|plain| number >= plain);
             let limits = Limits {
                 types: number,
-                overrides: self.plan.overrides.len(),
+                overrides: if sized { self.plan.overrides.len() } else { 0 },
                 ..Limits::default()
             };
             let chunk = self.ty(limits);
@@ -333,7 +385,10 @@ impl Generator<'_> {
     }
 
     fn ty(&mut self, limits: Limits) -> Chunk {
-        let kind = if self.random.chance(450) {
+        let sizes = self.sealable() && limits.overrides > 0;
+        let kind = if sizes && self.random.chance(500) {
+            self.random.pick(&[23, 29])
+        } else if self.random.chance(450) {
             self.random.pick(&[21, 23, 23, 24, 29])
         } else {
             self.kind(16..=29, &limits)
@@ -347,13 +402,26 @@ impl Generator<'_> {
             }
         }
         let mark = if self.random.chance(980) { mark } else { 1000 };
-        chunk.push(self.named(kind, limits, Some(mark)));
+        let mut record = self.named(kind, limits, Some(mark));
+        if sizes && matches!(kind, 23 | 29) {
+            self.choose_pending(&mut record, limits.overrides);
+        }
+        chunk.push(record);
         chunk
+    }
+
+    /// Mostly makes the size of an array one of so many overrides.
+    fn choose_pending(&mut self, record: &mut [u8], overrides: usize) {
+        if self.random.chance(700) {
+            record[9] = 1;
+            set_word(record, 10, self.random.below(overrides) as u32);
+        }
     }
 
     fn overrides(&mut self) -> Vec<Chunk> {
         let mut chunks = Vec::new();
-        let limits = self.module_limits();
+        let mut limits = self.module_limits();
+        limits.types = self.plan.plain_types.unwrap_or(limits.types);
         for init in self.plan.overrides.clone() {
             let mut record = self.filled(3, limits);
             if self.random.chance(700) {
@@ -369,8 +437,9 @@ impl Generator<'_> {
 
     fn constants(&mut self) -> Vec<Chunk> {
         let mut chunks = Vec::new();
-        let limits = self.module_limits();
+        let mut limits = self.module_limits();
         for init in self.plan.constants.clone() {
+            limits.types = self.mostly_plain(self.plan.types);
             let mut record = self.filled(4, limits);
             if !self.random.chance(self.faults) {
                 set_word(&mut record, 9, init);
@@ -425,11 +494,14 @@ impl Generator<'_> {
             // Few types, so that sizes with an init pass.
             limits.types = limits.types.min(1);
         }
+        limits.types = self.mostly_plain(limits.types);
         let kind = match self.random.chance(700) {
+            true if self.sealable() => self.random.pick(&[65, 65, 66, 67, 68, 68, 95]),
             true => self.random.pick(&[64, 65, 66, 67, 68]),
             false => self.kind(64..=97, &limits),
         };
-        if !limits.allow(kind) {
+        let misplaced = self.sealable() && matches!(kind, 73 | 74 | 75 | 87);
+        if misplaced || !limits.allow(kind) {
             return vec![self.filled(64, limits)];
         }
         let mut chunk = Vec::new();
@@ -445,14 +517,24 @@ impl Generator<'_> {
         };
         let mut record = self.filled(kind, limits);
         if !inits.is_empty() && !self.random.chance(self.faults) {
-            let passes = |&init: &u32| init == ABSENT || (init as usize) < number;
-            match inits.iter().rposition(passes) {
+            match self.passing_item(&inits, number) {
                 Some(item) => set_word(&mut record, 1, item as u32),
                 None => record = self.filled(64, limits),
             }
         }
         chunk.push(record);
         chunk
+    }
+
+    /// Of the constants or overrides with these inits one that the global expression with this number may name: the last,
+    /// or any for a module that sealing is to accept.
+    fn passing_item(&mut self, inits: &[u32], number: usize) -> Option<usize> {
+        let passes = |&item: &usize| inits[item] == ABSENT || (inits[item] as usize) < number;
+        let mut passing: Vec<usize> = (0..inits.len()).filter(passes).collect();
+        if self.sealable() && !passing.is_empty() {
+            return Some(self.random.pick(&passing));
+        }
+        passing.pop()
     }
 
     fn bodies(&mut self) -> Vec<Chunk> {
@@ -476,21 +558,26 @@ impl Generator<'_> {
         chunks
     }
 
-    /// A body that may use the results of the first `callable` functions.
+    /// A body that may use the results of the first `callable` functions, and call all, or only these for a module that
+    /// sealing is to accept.
     fn body(&mut self, opener: Vec<u8>, callable: usize) -> Chunk {
         let most = self.plan.body;
         let expressions = self.random.below(most);
         let local_variables = self.random.below(4.min(most - 1));
-        let whole = Limits {
+        let mut whole = Limits {
             expressions,
             local_variables,
             ..self.module_limits()
         };
+        if self.sealable() {
+            whole.functions = callable;
+        }
         let mut header: Vec<Chunk> = Vec::new();
         for _ in 0..self.random.below(4.min(most - 1)) {
             let kind = self.random.pick(&[13, 13, 14]);
             if whole.allow(kind) {
                 header.push(vec![self.filled(kind, whole)]);
+                whole.arguments += usize::from(kind == 13);
             }
         }
         let locals = (0..local_variables)
@@ -523,7 +610,11 @@ impl Generator<'_> {
 
     fn expression(&mut self, mut limits: Limits) -> Chunk {
         let mut kind = self.kind(64..=97, &limits);
-        if self.plan.functions > 0 && self.random.chance(20) {
+        if self.sealable() {
+            if kind == 73 {
+                return vec![self.argument(limits.arguments)];
+            }
+        } else if self.plan.functions > 0 && self.random.chance(20) {
             // A result of any function, also of one that is not earlier.
             kind = 87;
             limits.functions = self.plan.functions;
@@ -536,6 +627,14 @@ impl Generator<'_> {
         }
         chunk.push(self.filled(kind, limits));
         chunk
+    }
+
+    /// An expression that is one of so many arguments.
+    fn argument(&mut self, arguments: usize) -> Vec<u8> {
+        match arguments {
+            0 => words(64, &[1]),
+            _ => words(73, &[self.random.below(arguments) as u32]),
+        }
     }
 
     fn statements(&mut self, count: usize, depth: usize, limits: Limits, out: &mut Vec<Chunk>) {

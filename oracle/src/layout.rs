@@ -4,7 +4,7 @@
 pub const ABSENT: u32 = u32::MAX;
 
 /// The tables that a handle can name an item of.
-#[derive(Clone, Copy, Debug, PartialEq, Eq)]
+#[derive(Clone, Copy, Debug, PartialEq, Eq, Hash)]
 pub enum Table {
     Type,
     Constant,

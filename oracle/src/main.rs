@@ -1,8 +1,10 @@
-//! Runs naga's handle check and ours on the same images and compares their answers.
+//! Runs naga's handle check and ours, and two ways of sealing, on the same images and compares their answers.
 mod bench;
 mod body;
+mod breaches;
 mod catalogue;
 mod compare;
+mod contents;
 mod damage;
 mod decode;
 mod generator;
@@ -21,7 +23,12 @@ mod record;
 mod reference;
 mod refusal;
 mod sample;
+mod seal;
+mod sealable;
+mod sealed;
 mod source;
+mod statements;
+mod unchecked;
 mod vectors;
 mod verdict;
 mod writer;
@@ -37,9 +44,11 @@ use std::{env, thread};
 
 const USAGE: &str = "\
 usage: oracle compare [--seed N] [--images N] [--jobs N]   compare the answers on all short images, the catalogue, the
-                                                          limits, and so many random and damaged images
+                                                          limits, so many random and damaged images, and half as
+                                                          many that sealing nearly accepts
        oracle images                                      compare on the images on standard input, a line each
-       oracle answers                                     print naga's answers, with positions, to the images there
+       oracle answers                                     print the answers to the images there: five numbers of the
+                                                          check and five of sealing
        oracle vectors FOLDER [--seed N]                   write the recorded list to FOLDER/stdin and FOLDER/stdout
        oracle bench                                       measure both";
 
@@ -98,10 +107,12 @@ fn compare_all(options: &Options) -> ExitCode {
         Source::lists(),
         Source::catalogue(),
         Source::orders(),
+        Source::breaches(),
         Source::limits(),
         Source::large(),
         Source::random(seed, Scale::Any, images - damaged),
         Source::damaged(seed, Scale::Any, damaged),
+        Source::sealable(seed, images / 2),
     ];
     let comparisons: Vec<_> = sources.iter().map(|it| compare(it, jobs)).collect();
     finish(&comparisons)
@@ -119,7 +130,7 @@ fn answer_given() -> ExitCode {
         return ExitCode::FAILURE;
     };
     for image in images {
-        println!("{}", reference::verdict(&image, Memory::SMALL));
+        println!("{}", reference::verdicts(&image, Memory::SMALL));
     }
     ExitCode::SUCCESS
 }

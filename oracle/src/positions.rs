@@ -1,4 +1,5 @@
 //! Where the items of a module stand among the kept records, table by table.
+use naga::{Handle, Type};
 
 /// The position of each item, by its number in its table.
 #[derive(Clone, Default)]
@@ -14,6 +15,14 @@ pub struct Positions {
     /// The last record of special types, if there is one, and the last leaf.
     pub special_types: usize,
     pub diagnostic_filter_leaf: usize,
+    pub predeclared_types: Vec<PredeclaredType>,
+}
+
+/// A record of a predeclared type. Of those with one key naga's map has the last only.
+#[derive(Clone)]
+pub struct PredeclaredType {
+    pub ty: Handle<Type>,
+    pub position: usize,
 }
 
 #[derive(Clone, Default)]

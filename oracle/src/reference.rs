@@ -1,27 +1,35 @@
-//! naga's answer: its handle check on the module that an image decodes to.
+//! The answers that the library is held against: naga's handle check on the module that an image decodes to, and sealing
+//! of that module.
 use crate::decode::{decode, Decoded, Memory};
 use crate::locate::locate;
 use crate::positions::Positions;
-use crate::refusal::Refusal;
-use crate::verdict::{kind, Fault, Verdict, EARLIER, INSIDE, RANGE, UNFINISHED};
+use crate::seal::seal;
+use crate::verdict::{kind, Fault, Verdict, Verdicts, EARLIER, INSIDE, RANGE, UNFINISHED};
 use naga::{InvalidHandleError, Module, ValidationError};
 
 /// The position where `locate` finds another fault or position than naga says, so that the verdict agrees with none.
 const NOWHERE: usize = usize::MAX;
 
-/// The verdict for an image. The four numbers of a fault are naga's, the position is found by `locate`.
-pub fn verdict(image: &[u8], memory: Memory) -> Verdict {
+/// Both verdicts for an image. The four numbers of a fault of the check are naga's, its position is found by `locate`.
+pub fn verdicts(image: &[u8], memory: Memory) -> Verdicts {
     match decode::<true>(image, memory) {
-        Ok(decoded) => verdict_of(&decoded),
-        Err(refusal) => refused(refusal),
+        Ok(decoded) => verdicts_of(&decoded),
+        Err(refusal) => Verdicts::both(Verdict::refused(refusal.number())),
     }
 }
 
-fn refused(refusal: Refusal) -> Verdict {
-    Verdict::refused(refusal.number())
+fn verdicts_of(decoded: &Decoded) -> Verdicts {
+    let check = check_verdict(decoded);
+    if check != Verdict::default() {
+        return Verdicts::both(check);
+    }
+    Verdicts {
+        check,
+        seal: seal(&decoded.module, &decoded.positions),
+    }
 }
 
-fn verdict_of(decoded: &Decoded) -> Verdict {
+fn check_verdict(decoded: &Decoded) -> Verdict {
     if !decoded.finished {
         return Verdict::refused(UNFINISHED);
     }

@@ -3,7 +3,7 @@ use crate::decode::Memory;
 use crate::generator::Scale;
 use crate::lists::{self, Lists};
 use crate::random::Random;
-use crate::{catalogue, damage, generator, limits, orders};
+use crate::{breaches, catalogue, damage, generator, limits, orders, sealable};
 
 /// A numbered list of images.
 pub struct Source {
@@ -20,6 +20,7 @@ enum Images {
     Listed(Vec<Vec<u8>>),
     Random { seed: u64, scale: Scale },
     Damaged { seed: u64, scale: Scale },
+    Sealable { seed: u64 },
 }
 
 impl Source {
@@ -50,6 +51,10 @@ impl Source {
 
     pub fn orders() -> Self {
         Source::listed("orders", orders::images())
+    }
+
+    pub fn breaches() -> Self {
+        Source::listed("breaches", breaches::images())
     }
 
     pub fn limits() -> Self {
@@ -92,6 +97,18 @@ impl Source {
         }
     }
 
+    /// Random images that sealing accepts or nearly so.
+    pub fn sealable(seed: u64, count: u64) -> Self {
+        Source {
+            name: "sealable",
+            count,
+            memory: Memory::SMALL,
+            images: Images::Sealable {
+                seed: seed.rotate_left(32),
+            },
+        }
+    }
+
     pub fn image(&self, number: u64) -> Vec<u8> {
         match &self.images {
             Images::Short => lists::short(number),
@@ -106,6 +123,7 @@ impl Source {
                 let records = generator::records(&mut random, *scale);
                 damage::damaged(records, &mut random)
             }
+            Images::Sealable { seed } => sealable::image(&mut Random::new(*seed, number)),
         }
     }
 }

@@ -1,11 +1,11 @@
-//! The recorded list: small images with naga's answers. It has every number and kind that is known to occur, every
+//! The recorded list: small images with naga's answers and what sealing answers. It has every number and kind that is known to occur, every
 //! kind of record in an image that passes, and every tested handle of every kind and case out of its table.
 use crate::decode::Memory;
 use crate::generator::Scale;
 use crate::layout::{kinds, ABSENT};
 use crate::source::Source;
-use crate::verdict::{Fault, INSIDE};
-use crate::writer::{case_bytes, handle_places};
+use crate::verdict::{Fault, Verdicts, INSIDE};
+use crate::writer::{case_bytes, handle_places, word};
 use crate::{hexadecimal, image, limits, reference};
 use std::collections::{BTreeMap, BTreeSet};
 use std::path::Path;
@@ -45,7 +45,7 @@ enum Shown {
 
 struct Recorded {
     image: Vec<u8>,
-    fault: Fault,
+    verdicts: Verdicts,
 }
 
 #[derive(Default)]
@@ -64,7 +64,9 @@ pub fn write(seed: u64, folder: &Path) -> io::Result<()> {
     for recorded in &list.recorded {
         images += &hexadecimal::encode(&recorded.image);
         images.push('\n');
-        answers += &format!("{}\n", recorded.fault);
+        // naga's errors have no position.
+        let Verdicts { check, seal } = recorded.verdicts;
+        answers += &format!("check {} seal {seal}\n", check.fault());
     }
     fs::create_dir_all(folder)?;
     fs::write(folder.join("stdin"), &images)?;
@@ -119,11 +121,11 @@ impl List {
         if image.len() > longest {
             return;
         }
-        let fault = reference::verdict(&image, Memory::SMALL).fault();
-        let shown = shows(&image, fault);
+        let verdicts = reference::verdicts(&image, Memory::SMALL);
+        let shown = shows(&image, verdicts.check.fault());
         if shown.iter().any(|it| !self.shown.contains(it)) {
             self.shown.extend(shown);
-            self.add(image, fault);
+            self.add(image, verdicts);
         }
     }
 
@@ -132,18 +134,20 @@ impl List {
         if image.len() > SHORT {
             return;
         }
-        let fault = reference::verdict(&image, Memory::SMALL).fault();
+        let verdicts = reference::verdicts(&image, Memory::SMALL);
+        let fault = verdicts.check.fault();
         let most = if fault.number == 0 { PASSING } else { SHARE };
         let count = self.counted.get(&(fault.number, fault.kind));
         if count.is_none_or(|&count| count < most) {
-            self.add(image, fault);
+            self.add(image, verdicts);
         }
     }
 
-    fn add(&mut self, image: Vec<u8>, fault: Fault) {
+    fn add(&mut self, image: Vec<u8>, verdicts: Verdicts) {
         if self.drawn.insert(image.clone()) {
+            let fault = verdicts.check.fault();
             *self.counted.entry((fault.number, fault.kind)).or_default() += 1;
-            self.recorded.push(Recorded { image, fault });
+            self.recorded.push(Recorded { image, verdicts });
         }
     }
 }
@@ -159,7 +163,7 @@ fn shows(image: &[u8], fault: Fault) -> Vec<Shown> {
     let mut opener = 0;
     for part in image::Parts::new(image) {
         for at in handle_places(part) {
-            let word = u32::from_le_bytes(part[at..at + 4].try_into().expect("four bytes"));
+            let word = word(part, at);
             if word >= 1000 && word != ABSENT {
                 shown.push(Shown::Place {
                     opener,

@@ -31,6 +31,35 @@ impl Verdict {
     }
 }
 
+/// What the check and sealing answer for one image.
+#[derive(Clone, Copy, Debug, PartialEq, Eq)]
+pub struct Verdicts {
+    pub check: Verdict,
+    pub seal: Verdict,
+}
+
+impl Verdicts {
+    /// The same from both, as of a refusal of put.
+    pub fn both(verdict: Verdict) -> Self {
+        Verdicts {
+            check: verdict,
+            seal: verdict,
+        }
+    }
+
+    /// Whether sealing accepts.
+    pub fn accepts(&self) -> bool {
+        self.seal == Verdict::default()
+    }
+}
+
+/// The five numbers of the check and then those of sealing.
+impl fmt::Display for Verdicts {
+    fn fmt(&self, f: &mut fmt::Formatter<'_>) -> fmt::Result {
+        write!(f, "{} {}", self.check, self.seal)
+    }
+}
+
 impl fmt::Display for Verdict {
     fn fmt(&self, f: &mut fmt::Formatter<'_>) -> fmt::Result {
         write!(f, "{} {}", self.fault(), self.position)
@@ -75,6 +104,13 @@ pub const EARLIER: u32 = 9;
 pub const RANGE: u32 = 10;
 pub const UNFINISHED: u32 = 7;
 
+/// The refusals of sealing.
+pub mod sealing {
+    pub const PLACED: u32 = 11;
+    pub const INSIDE: u32 = 12;
+    pub const EARLIER: u32 = 13;
+}
+
 /// What the numbers of a fault count.
 pub mod kind {
     pub const TYPE: u32 = 1;
@@ -84,6 +120,7 @@ pub mod kind {
     pub const LOCAL_VARIABLE: u32 = 5;
     pub const EXPRESSION: u32 = 6;
     pub const FUNCTION: u32 = 7;
+    pub const ARGUMENT: u32 = 8;
     pub const FILTER_NODE: u32 = 9;
 
     /// The kind that stands for naga's type of this name.

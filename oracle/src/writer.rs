@@ -67,8 +67,15 @@ pub fn words(kind: u8, words: &[u32]) -> Vec<u8> {
     record
 }
 
-/// Where the words of a well-formed record that can hold a handle begin, absent ones too, in order of declaration.
-pub fn handle_places(record: &[u8]) -> Vec<usize> {
+/// A word of a record that can hold a handle of a table, and where it begins.
+#[derive(Clone, Copy)]
+pub struct Place {
+    pub table: Table,
+    pub at: usize,
+}
+
+/// The words of a well-formed record that can hold a handle, absent ones too, in order of declaration.
+pub fn places(record: &[u8]) -> Vec<Place> {
     let mut places = Vec::new();
     let mut at = 1;
     for field in fields(record[0]).expect("the record has a kind") {
@@ -77,18 +84,30 @@ pub fn handle_places(record: &[u8]) -> Vec<usize> {
             Field::Cased(cased) => {
                 let mut word = at + 1;
                 for field in cased.cases[usize::from(record[at])] {
-                    add_place(field, word, &mut places);
+                    places.extend(place(field, word));
                     word += 4;
                 }
                 at += 1 + 4 * cased.width;
             }
             _ => {
-                add_place(field, at, &mut places);
+                places.extend(place(field, at));
                 at += 4;
             }
         }
     }
     places
+}
+
+fn place(field: &Field, at: usize) -> Option<Place> {
+    match *field {
+        Field::Handle(table) | Field::Optional(table) => Some(Place { table, at }),
+        _ => None,
+    }
+}
+
+/// Where those words begin.
+pub fn handle_places(record: &[u8]) -> Vec<usize> {
+    places(record).iter().map(|place| place.at).collect()
 }
 
 /// The case bytes of a well-formed record.
@@ -108,10 +127,9 @@ pub fn case_bytes(record: &[u8]) -> Vec<u8> {
     cases
 }
 
-fn add_place(field: &Field, at: usize, places: &mut Vec<usize>) {
-    if matches!(field, Field::Handle(_) | Field::Optional(_)) {
-        places.push(at);
-    }
+/// The word of a record that begins at a place.
+pub fn word(record: &[u8], at: usize) -> u32 {
+    u32::from_le_bytes(record[at..at + 4].try_into().expect("four bytes"))
 }
 
 /// Writes a word into a record.
