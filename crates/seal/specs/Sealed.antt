@@ -1,6 +1,6 @@
 -- What a sealed draft is, and what the answers of sealing say.
 use Rattle.std.specs.Prelude.{◌≡◌, ℕ, List, None}
-use Rattle.rules.specs.Module.{Module}
+use Rattle.rules.specs.Module.{Record, Module}
 use Rattle.draft.specs.State.{state}
 use Rattle.arena.specs.declared.Draft.{Draft}
 use Rattle.arena.specs.declared.slot.Slot.{Slot}
@@ -21,6 +21,14 @@ pub record IsSealed (s : Sealed) (d : Draft) (bytes : List ℕ) (slots : List Sl
   pub accepted : seal_of (state (records d bytes slots)) ≡ None
   pub earlier : TablesEarlier (state (records d bytes slots)).built
   pub promises : Promises (records d bytes slots)
+
+-- it is sealed, with the counts, bytes and slots that it has
+abbrev pub IsSealedDraft : Sealed → Type 0
+IsSealedDraft s = IsSealed s s.draft.now s.bytes.now s.slots.now
+
+-- the kept records of its draft
+abbrev pub sealed_records : Sealed → List Record
+sealed_records s = records s.draft.now s.bytes.now s.slots.now
 
 -- of the answers for a module: none is a fault exactly when every test passes, and there are no other faults than those
 -- that are listed

@@ -10,7 +10,7 @@ ghost use Rattle.valid.specs.Module.{shown_module};
 ghost use Rattle.sealing.specs.Seal.{seal_tests, seal_of};
 ghost use Rattle.sealing.specs.Once.{seal_once_tests};
 ghost use Rattle.seal.specs.Breach.{breached};
-ghost use Rattle.seal.specs.Sealed.{IsSealed, Laws};
+ghost use Rattle.seal.specs.Sealed.{IsSealed, IsSealedDraft, Laws};
 
 use crate::bodies::seal_bodies;
 use crate::breach::Breach;
@@ -49,6 +49,7 @@ pub fn seal<'a>(
     requires { Stands draft.now bytes.now slots.now }
     ensures answer { result_err result ≡ seal_of (state (records draft.now bytes.now slots.now)) }
     ensures sealed { IfOk result (λ s. IsSealed s draft.now bytes.now slots.now) }
+    ensures readable { IfOk result IsSealedDraft }
     ensures laws { Laws (state (records draft.now bytes.now slots.now)).built }
 {
     let view = draft.view(bytes, slots);

@@ -83,3 +83,6 @@ returns-clause-sealed c =
       earlier = sealed_earlier (state (m at)).built (accepted (state (m at)) (done at) (none at) passed);
       promises = sealed_promises (m at) c.requires.accepted accepts;
     }
+
+pub returns-clause-readable : goal.returns-clause-readable
+returns-clause-readable c = returns-clause-sealed c
