@@ -1,6 +1,7 @@
 -- The row of a sealed module is a row.
-use Rattle.std.proofs.Common.{◌≡◌, ℕ, zero, suc, ◌<◌, ◌≤◌, Bool, true, false, cond, List, [], ◌∷◌, ◌++◌, map, length, take, slice_get, flat_map, Some, refl, sym, ap, ◌∙◌, subst, inl, inr, arith}
+use Rattle.std.proofs.Common.{◌≡◌, ℕ, zero, suc, ◌<◌, ◌≤◌, Bool, true, false, cond, List, [], ◌∷◌, ◌++◌, map, length, take, slice_get, flat_map, Some, None, refl, sym, ap, ◌∙◌, subst, inl, inr, arith}
 use Rattle.std.specs.List.{AllByRecursion}
+use Rattle.std.specs.List.Sorted.{IsPermutation, IsNonDecreasingBy}
 use Rattle.std.proofs.ByRecursion.{All-append, All-take}
 use Rattle.std.proofs.lemmas.Bool.{cases_lt}
 use Rattle.ir.specs.declared.handle.Table.{Table}
@@ -16,7 +17,7 @@ use Rattle.ir.specs.Handle.{named, table_of, index_of}
 use Rattle.ir.specs.Layout.{layout}
 use Rattle.records.specs.Handles.{handles_of}
 use Rattle.rules.specs.declared.faults.Rule.TheVariants as rule
-use Rattle.rules.specs.Module.{Item, Module}
+use Rattle.rules.specs.Module.{Record, Item, Module}
 use Rattle.rules.specs.Sizes.{size_in, sizes}
 use Rattle.rules.specs.Items.{handles, is_of, numbers, own, type_of, init_of, pending_of, at}
 use Rattle.rules.specs.Fault.{earlier}
@@ -26,13 +27,15 @@ use Rattle.rules.specs.Verdict.{AllHold}
 use Rattle.rules.proofs.Passing.{all_left, hold_left, hold_right, hold_each, hold_numbered, below_from_hold}
 use Rattle.rules.proofs.Once.{get_take}
 use Rattle.draft.specs.Manner.{manner_of}
-use Rattle.draft.specs.State.{state}
+use Rattle.draft.specs.State.{start, state}
+use Rattle.draft.specs.Admitted.{Accepted}
 use Rattle.sealing.specs.Seal as seals
-use Rattle.sealing.specs.Seal.{types_named, waited_tests, up_to_tests, ty_tests}
+use Rattle.sealing.specs.Seal.{seal_of, types_named, waited_tests, up_to_tests, ty_tests}
 use Rattle.sealing.proofs.FieldTables.{Allowed, fields_allowed}
 use Rattle.row.specs.Row.{Has}
 use Rattle.row.proofs.Places.{In, in_from_get, in_from_has, has_from_in, in_left, in_right, in_either, once_from_apart}
-use Rattle.row.proofs.Sorting.{ranked_is_row}
+use Rattle.row.proofs.Sorting.{Sorted, sorted, sorted_is_row}
+use Rattle.row.proofs.Permuting.{permuted}
 use Rattle.promises.specs.Inside.{IsInside, ItemsInside, ModuleInside}
 use Rattle.promises.specs.Rows.{RowItem, IsItemOf, item_at, handle_of, PointsTo, above, room, type_rank, expression_rank, value_ranks, rank, row_items, row, IsModuleRow, SealedRow}
 use Rattle.promises.proofs.Handles.{same_code, fields_most, own_is}
@@ -354,13 +357,13 @@ module _ (m : Module) (w : ModuleMade m) (p : ModulePassed m) where
   falls (RowItem.expression x) (RowItem.constant c) q = expression_over_constant x c q
   falls (RowItem.expression x) (RowItem.expression y) q = let e = edge (RowItem.expression x) (RowItem.expression y) q in let l = expression_expression m y x (earlier_operand x y e.0 e.1 e.2) in omega arith
 
-  pub is_row : IsModuleRow m (row m)
-  unfolding row
-  is_row =
+  -- any list of all items in the order of their ranks is a row
+  pub in_order_is_row : (row : List RowItem) → Sorted (rank m) (row_items m) row → IsModuleRow m row
+  in_order_is_row row s =
       let items = row_items m in
       let in_list : (x : RowItem) → IsItemOf m x → Has items x = λ x h. has_from_in items x (in_items m x h) in
       let in_module : (x : RowItem) → Has items x → IsItemOf m x = λ x h. from_items m x (in_from_has items x h) in
-      let r = ranked_is_row RowItem (PointsTo m) items (rank m) (once_from_apart items (apart_items m)) (λ x y i q. in_list y (stays x y q)) (λ x y i q. falls x y q) in
+      let r = sorted_is_row (PointsTo m) items row (rank m) s (λ x y i q. in_list y (stays x y q)) (λ x y i q. falls x y q) in
       record {
         each = λ x h. r.each x (in_list x h);
         only = λ x h. in_module x (r.only x h);
@@ -368,5 +371,16 @@ module _ (m : Module) (w : ModuleMade m) (p : ModulePassed m) where
         after = r.after;
       }
 
+  pub is_row : IsModuleRow m (row m)
+  unfolding row
+  is_row = in_order_is_row (row m) (sorted (rank m) (row_items m) (apart_items m))
+
 pub sealed_row : SealedRow
 sealed_row m a e = let d = sealed_draft m a e in is_row (state m).built d.made d.passed
+
+-- and so is, where sealing accepts, a permutation of the items that rises by rank
+pub permuted_row : (records : List Record) → Accepted start records → seal_of (state records) ≡ None → (row : List RowItem) → IsPermutation (row_items (state records).built) row → IsNonDecreasingBy (rank (state records).built) row → IsModuleRow (state records).built row
+permuted_row m a e row p r =
+    let d = sealed_draft m a e in
+    let n = (state m).built in
+    in_order_is_row n d.made d.passed row (permuted (rank n) (row_items n) row (once_from_apart (row_items n) (apart_items n)) p r)

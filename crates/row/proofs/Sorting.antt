@@ -2,20 +2,20 @@
 use Rattle.std.proofs.Common.{◌≡◌, ℕ, zero, suc, ◌<◌, ◌≤◌, Bool, true, false, cond, nat_le, List, [], ◌∷◌, Some, slice_get, refl, sym, ap, inl, inr, arith}
 use Rattle.std.proofs.lemmas.Bool.{leb-true, leb-false}
 use Rattle.std.proofs.lemmas.Option.{same_Some}
-use Rattle.row.specs.Row.{Has, insert, sort, RankedIsRow}
+use Rattle.row.specs.Row.{Has, IsRow, insert, sort, RankedIsRow}
 use Rattle.row.proofs.Places.{In, Apart, in_from_get, in_from_has, has_from_in, once_from_apart, apart_from_once}
 
 module _ {X : Type 0} (rank : X → ℕ) where
-  abbrev Rising : List X → Type 0
+  abbrev pub Rising : List X → Type 0
   Rising [] = Unit {0}
   Rising (x ∷ xs) = ((y : X) → In xs y → rank x ≤ rank y) × Rising xs
 
   -- the list zs rises, and has what xs has, each once
-  record Sorted (xs zs : List X) : Type 0 where
-    rising : Rising zs
-    apart : Apart zs
-    back : (z : X) → In zs z → In xs z
-    forth : (z : X) → In xs z → In zs z
+  pub record Sorted (xs zs : List X) : Type 0 where
+    pub rising : Rising zs
+    pub apart : Apart zs
+    pub back : (z : X) → In zs z → In xs z
+    pub forth : (z : X) → In xs z → In zs z
 
   put_in : (b : Bool) (x y : X) (ys zs : List X) → nat_le (rank x) (rank y) ≡ b → Rising (y ∷ ys) → Apart (x ∷ y ∷ ys) → Sorted (x ∷ ys) zs → Sorted (x ∷ y ∷ ys) (cond b (x ∷ y ∷ ys) (y ∷ zs))
   put_in true x y ys zs e r a s =
@@ -39,7 +39,7 @@ module _ {X : Type 0} (rank : X → ℕ) where
   inserted x [] r a = record { rising = (λ y h. absurd h, tt); apart = a; back = λ z h. h; forth = λ z h. h }
   inserted x (y ∷ ys) r a = put_in (nat_le (rank x) (rank y)) x y ys (insert rank x ys) refl r a (inserted x ys r.1 (λ g. a.0 (inr g), a.1.1))
 
-  sorted : (xs : List X) → Apart xs → Sorted xs (sort rank xs)
+  pub sorted : (xs : List X) → Apart xs → Sorted xs (sort rank xs)
   sorted [] a = record { rising = tt; apart = tt; back = λ z h. h; forth = λ z h. h }
   sorted (x ∷ xs) a =
       let s = sorted xs a.1 in
@@ -59,10 +59,9 @@ module _ {X : Type 0} (rank : X → ℕ) where
   earlier (z ∷ zs) r (suc j) zero x y h g l = omega arith
   earlier (z ∷ zs) r (suc j) (suc k) x y h g l = let e = earlier zs r.1 j k x y h g l in omega arith
 
-pub ranked_is_row : (X : Type 0) (Points : X → X → Type 0) → RankedIsRow X Points
-ranked_is_row X Points items rank once closed falls =
-    let s = sorted rank items (apart_from_once items once) in
-    let row : List X = sort rank items in
+-- any list of the items in the order of their ranks is a row
+pub sorted_is_row : {X : Type 0} (Points : X → X → Type 0) (items row : List X) (rank : X → ℕ) → Sorted rank items row → ((x y : X) → Has items x → Points x y → Has items y) → ((x y : X) → Has items x → Points x y → rank y < rank x) → IsRow (Has items) Points row
+sorted_is_row {X} Points items row rank s closed falls =
     let back : (x : X) → Has row x → Has items x = λ x h. has_from_in items x (s.back x (in_from_has row x h)) in
     let forth : (x : X) → Has items x → Has row x = λ x h. has_from_in row x (s.forth x (in_from_has items x h)) in
     record {
@@ -74,3 +73,7 @@ ranked_is_row X Points items rank once closed falls =
           let a = forth y (closed x y i p) in
           (a.0, earlier rank row s.rising j a.0 x y h a.1 (falls x y i p), a.1);
     }
+
+pub ranked_is_row : (X : Type 0) (Points : X → X → Type 0) → RankedIsRow X Points
+ranked_is_row X Points items rank once closed falls =
+    sorted_is_row Points items (sort rank items) rank (sorted rank items (apart_from_once items once)) closed falls
