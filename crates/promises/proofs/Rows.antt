@@ -17,6 +17,7 @@ use Rattle.ir.specs.Handle.{named, table_of, index_of}
 use Rattle.ir.specs.Layout.{layout}
 use Rattle.records.specs.Handles.{handles_of}
 use Rattle.rules.specs.declared.faults.Rule.TheVariants as rule
+use Rattle.rules.specs.declared.sizes.Sizes.{Sizes}
 use Rattle.rules.specs.Module.{Record, Item, Module}
 use Rattle.rules.specs.Sizes.{size_in, sizes}
 use Rattle.rules.specs.Items.{handles, is_of, numbers, own, type_of, init_of, pending_of, at}
@@ -36,7 +37,7 @@ use Rattle.row.specs.Row.{Has}
 use Rattle.row.proofs.Places.{In, in_from_get, in_from_has, has_from_in, in_left, in_right, in_either, once_from_apart}
 use Rattle.row.proofs.Sorting.{Sorted, sorted, sorted_is_row}
 use Rattle.row.proofs.Permuting.{permuted}
-use Rattle.promises.specs.Inside.{IsInside, ItemsInside, ModuleInside}
+use Rattle.promises.specs.Inside.{IsInside, ItemInside, ItemsInside, ModuleInside}
 use Rattle.promises.specs.Rows.{RowItem, IsItemOf, item_at, handle_of, PointsTo, above, room, type_rank, expression_rank, value_ranks, rank, row_items, row, IsModuleRow, SealedRow}
 use Rattle.promises.proofs.Handles.{same_code, fields_most, own_is}
 use Rattle.promises.proofs.Made.{allowed_of, Made, AType, AnExpression, ModuleMade}
@@ -93,17 +94,20 @@ type_allowed i (y, w) = made_allowed type_tables (kind.Type y) i w (layouts y) (
     takes type.Scalar = refl
     takes y = refl
 
--- the type of an item whose handles are inside is inside
-types_within : (m : Module) (v : Item) → AllByRecursion (IsInside (sizes m)) (handles v) → AllByRecursion (λ n. n < length m.types) (type_of v)
-types_within m v a = All-take (λ n. n < length m.types) 1 (numbers table.Types (handles_of v.bytes)) (within (handles_of v.bytes) (all_left (IsInside (sizes m)) (handles_of v.bytes) (flat_map handles_of v.taken) a))
+-- what an item whose handles are inside names by its own record is inside
+pub own_within : (t : Table) (s : Sizes) (v : Item) → ItemInside s v → AllByRecursion (λ n. n < size_in s t) (own t v)
+own_within t s v a = All-take (λ n. n < size_in s t) 1 (numbers t (handles_of v.bytes)) (within (handles_of v.bytes) (all_left (IsInside s) (handles_of v.bytes) (flat_map handles_of v.taken) a))
   where
-    one : (h : Handle) (b : Bool) (ns : List ℕ) → is_of table.Types h ≡ b → IsInside (sizes m) h → AllByRecursion (λ n. n < length m.types) ns → AllByRecursion (λ n. n < length m.types) (cond b (index_of h ∷ ns) ns)
-    one h true ns e l r = (subst (λ t. index_of h < size_in (sizes m) t) (same_code (table_of h) table.Types e) l, r)
+    one : (h : Handle) (b : Bool) (ns : List ℕ) → is_of t h ≡ b → IsInside s h → AllByRecursion (λ n. n < size_in s t) ns → AllByRecursion (λ n. n < size_in s t) (cond b (index_of h ∷ ns) ns)
+    one h true ns e l r = (subst (λ u. index_of h < size_in s u) (same_code (table_of h) t e) l, r)
     one h false ns e l r = r
 
-    within : (hs : List Handle) → AllByRecursion (IsInside (sizes m)) hs → AllByRecursion (λ n. n < length m.types) (numbers table.Types hs)
+    within : (hs : List Handle) → AllByRecursion (IsInside s) hs → AllByRecursion (λ n. n < size_in s t) (numbers t hs)
     within [] a = tt
-    within (h ∷ hs) a = one h (is_of table.Types h) (numbers table.Types hs) refl a.0 (within hs a.1)
+    within (h ∷ hs) a = one h (is_of t h) (numbers t hs) refl a.0 (within hs a.1)
+
+types_within : (m : Module) (v : Item) → ItemInside (sizes m) v → AllByRecursion (λ n. n < length m.types) (type_of v)
+types_within m v a = own_within table.Types (sizes m) v a
 
 -- what stands behind values
 module _ (m : Module) (v : Item) where

@@ -87,7 +87,7 @@ module _ {X : Type 0} where
   has_from_contains : (xs : List X) (x : X) → Contains xs x → Has xs x
   has_from_contains xs x h = (h.0, slice_get-get_or xs h.0 x h.1 ∙ ap Some h.2)
 
-  in_permuted : (xs ys : List X) → IsPermutation xs ys → (x : X) → In xs x → In ys x
+  pub in_permuted : (xs ys : List X) → IsPermutation xs ys → (x : X) → In xs x → In ys x
   in_permuted xs ys p x h = in_from_has ys x (has_from_contains ys x (Contains-permutation xs ys x p (contains_from_has xs x (has_from_in xs x h))))
 
   module _ (rank : X → ℕ) where

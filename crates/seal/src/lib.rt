@@ -9,6 +9,6 @@ mod leaves;
 mod others;
 pub mod seal;
 pub mod sealed;
-mod sizes;
+pub mod sizes;
 #[cfg(test)]
 mod tests;

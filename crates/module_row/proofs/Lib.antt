@@ -1,0 +1,4 @@
+pub mod Rooms
+pub mod WithRanks
+pub mod Sealed
+pub mod Sorted

@@ -1,0 +1,73 @@
+use Rattle.std.proofs.Common.{◌≡◌, ◌^◌, ◌≤◌, ◌+◌, ◌∷◌, [], ◌++◌, suc, max, length, take, drop, slice_get, flat_map, Some, sym, ap, ◌∙◌, subst, arith, length-append, length-drop}
+use Rattle.std.proofs.lemmas.List.{take_all}
+use Rattle.std.proofs.lemmas.Option.{slice_get_within}
+use Rattle.rules.specs.Once.{inits}
+use Rattle.items.specs.Item.{shown, items_left}
+use Rattle.promises.specs.Rows.{above, room}
+use Rattle.valid.specs.Module.{shown_module}
+use Rattle.valid.proofs.Typed.{here_of}
+use Rattle.module_row.specs.Rooms.{rooms_from}
+use Rattle.module_row.proofs.Rooms.{max_is, room_next, rooms_more}
+use Rattle.module_row.proofs.ranks.rooms.Goals as goal
+use Rattle.module_row.proofs.ranks.rooms.Goals.{In-None}
+
+pub loop-ty-init : goal.loop-ty-init
+loop-ty-init c =
+    let m = shown_module c.args.«module» in
+    let n : length c.new-rooms.result.items ≡ 0 = ap length c.new-rooms.ensures.items in (
+      tt,
+      tt,
+      ap items_left c.into_iter-ty-iterator.ensures.into_iter_gives ∙ c.items-ty-items.ensures ∙ ap (λ k. drop k m.types) (sym n),
+      omega arith,
+      c.new-rooms.ensures.items ∙ ap (λ k. rooms_from m 0 k) (sym n),
+      ap (λ k. above (flat_map (inits m) (take k m.types))) (sym n),
+      omega arith,
+    )
+
+pub loop-ty-preserved : goal.loop-ty-preserved
+loop-ty-preserved c =
+    let m = shown_module c.args.«module» in
+    let k = length c.loop-ty.rooms.items in
+    let i = shown c.in-Some.ty in
+    let p = here_of m.types k _ _ i c.loop-ty.invariant.2 (c.in-Some.ensures {u = tt}).steps in
+    let w = slice_get_within m.types k i p.0 in
+    let most : c.max-room.result ≡ max c.loop-ty.room c.waits_for.result = c.max-room.ensures ∙ max_is c.loop-ty.room c.waits_for.result in
+    let room_is : c.max-room.result ≡ room m k =
+    most
+    ∙ ap (λ n. max n c.waits_for.result) c.loop-ty.invariant.5
+    ∙ ap (max (above (flat_map (inits m) (take k m.types)))) c.waits_for.ensures.above
+    ∙ room_next m k i p.0 in
+    let items = (c.in_ok-push.ensures {u = tt}).items in
+    let size : length c.push.new.self.items ≡ suc k = let e = ap length items ∙ length-append c.loop-ty.rooms.items (c.max-room.result ∷ []) in omega arith in
+    let later : k + 1 ≡ suc k = omega arith in
+    let few = c.waits_for.ensures.few in
+    let before = c.loop-ty.invariant.6 in (
+      tt,
+      tt,
+      p.1 ∙ ap (λ n. drop n m.types) (later ∙ sym size),
+      omega arith,
+      items ∙ ap (λ l. l ++ c.max-room.result ∷ []) c.loop-ty.invariant.4 ∙ ap (λ n. rooms_from m 0 k ++ n ∷ []) room_is ∙ rooms_more m k ∙ ap (rooms_from m 0) (sym size),
+      room_is ∙ ap (λ n. above (flat_map (inits m) (take n m.types))) (sym size),
+      omega arith,
+    )
+
+-- all types have gone by
+all : (c : In-None) → length c.loop-ty.rooms.items ≡ length (shown_module c.args.«module»).types
+all c =
+    let types = (shown_module c.args.«module»).types in
+    let k = length c.loop-ty.rooms.items in
+    let e = ap length (sym c.loop-ty.invariant.2 ∙ (c.in-None.ensures {u = tt}).steps.0) in
+    let d = length-drop k types in
+    let u = c.loop-ty.invariant.3 in
+    omega arith
+
+pub returns-clause-rooms : goal.returns-clause-rooms
+returns-clause-rooms c = c.loop-ty.invariant.4 ∙ ap (rooms_from (shown_module c.args.«module») 0) (all (goal.at.returns-clause-rooms c).In-None)
+
+pub returns-clause-few : goal.returns-clause-few
+returns-clause-few c =
+    let m = shown_module c.args.«module» in
+    let n = all (goal.at.returns-clause-few c).In-None in
+    let e = ap (λ l. above (flat_map (inits m) l)) (sym (take_all (length c.loop-ty.rooms.items) m.types (omega arith))) ∙ sym c.loop-ty.invariant.5 in
+    let few = c.loop-ty.invariant.6 in
+    omega arith
