@@ -4,15 +4,11 @@ use Rattle.std.specs.List.{flat_map}
 use Rattle.std.specs.Option.{option_map}
 use Rattle.ir.specs.declared.handle.Table.TheVariants as table
 use Rattle.ir.specs.Handle.{named}
-use Rattle.rules.specs.declared.faults.Rule.{Rule}
-use Rattle.rules.specs.declared.faults.Rule.TheVariants as rule
-use Rattle.rules.specs.declared.faults.FaultKind.{FaultKind}
-use Rattle.rules.specs.declared.faults.FaultKind.TheVariants as kind
-use Rattle.rules.specs.declared.faults.Fault.{Fault}
+use Rattle.rules.specs.declared.faults.Rejection.{Rejection}
 use Rattle.rules.specs.declared.faults.Rejection.TheVariants.{Faulty}
 use Rattle.rules.specs.Module.{Record, Module}
 use Rattle.rules.specs.Sizes.{sizes}
-use Rattle.rules.specs.Fault.{numbered}
+use Rattle.rules.specs.Fault.{refusal_number, refusal_kind, refusal_first, refusal_second, refusal_place, numbered}
 use Rattle.rules.specs.Check.{check}
 use Rattle.rules.specs.Verdict.{AllHold}
 use Rattle.draft.specs.State.{state}
@@ -95,14 +91,27 @@ kept rs = fold (λ m r. (put_def 1000 100 m r).1) [] rs
 abbrev pub module_of : List Record → Module
 module_of rs = (state (kept rs)).built
 
-abbrev pub fault : Rule → FaultKind → ℕ → ℕ → ℕ → Option Fault
-fault broken counted first second place = Some (record { rule = broken; kind = counted; first = first; second = second; place = place })
+-- the five numbers of a rejection, none where there is none
+abbrev pub numbers_of : Option Rejection → List ℕ
+numbers_of None = []
+numbers_of (Some r) = refusal_number r ∷ refusal_kind r ∷ refusal_first r ∷ refusal_second r ∷ refusal_place r ∷ []
 
--- put keeps all of them, and the check and sealing answer this
-pub record Answers (rs : List Record) (checked sealed : Option Fault) : Type 0 where
+abbrev pub accepted : List ℕ
+accepted = []
+
+-- put keeps all of them, and the check of their module and the sealing of the draft answer these numbers
+pub record Answers (rs : List Record) (checked sealed : List ℕ) : Type 0 where
   pub kept_all : kept rs ≡ rs
-  pub check_is : check (module_of rs) ≡ checked
-  pub seal_is : seal_of (state (kept rs)) ≡ option_map Faulty sealed
+  pub check_is : numbers_of (option_map Faulty (check (module_of rs))) ≡ checked
+  pub seal_is : numbers_of (seal_of (state (kept rs))) ≡ sealed
+
+-- the size of type 1 is override 0, whose init is expression 0
+abbrev pub sized_records : List Record
+sized_records = scalar 0 ∷ override 0 0 ∷ array ∷ zero_value 0 ∷ []
+
+-- the size of type 1 is override 0, whose init is expression 1, which is constant 0, which is of type 1
+abbrev pub ring_records : List Record
+ring_records = scalar 0 ∷ override 0 1 ∷ array ∷ zero_value 0 ∷ constant 1 0 ∷ constant_value 0 ∷ []
 
 -- type 0 is a Scalar in all of them
 pub record SmallDrafts : Type 0 where
@@ -111,34 +120,33 @@ pub record SmallDrafts : Type 0 where
   pub same_type : (put_def 1000 100 (kept (scalar 0 ∷ [])) (scalar 0)).0 ≡ Ok (Some (named table.Types 0))
   pub other_type : (put_def 1000 100 (kept (scalar 0 ∷ scalar 0 ∷ [])) (scalar 1)).0 ≡ Ok (Some (named table.Types 1))
   -- in a body without expressions a range that starts where it ends passes, and one that starts after its end does not
-  pub empty_range : Answers (scalar 0 ∷ function ∷ emit 5 5 ∷ end_function ∷ []) None None
-  pub turned_range : Answers (scalar 0 ∷ function ∷ emit 1 0 ∷ end_function ∷ []) (fault rule.Range kind.Expression 1 0 2) (fault rule.Range kind.Expression 1 0 2)
+  pub empty_range : Answers (scalar 0 ∷ function ∷ emit 5 5 ∷ end_function ∷ []) accepted accepted
+  pub turned_range : Answers (scalar 0 ∷ function ∷ emit 1 0 ∷ end_function ∷ []) (10 ∷ 6 ∷ 1 ∷ 0 ∷ 2 ∷ []) (10 ∷ 6 ∷ 1 ∷ 0 ∷ 2 ∷ [])
   -- an ImageSample whose last gradient is itself, or the expression before
-  pub own_gradient : Answers (scalar 0 ∷ function ∷ literal ∷ literal ∷ literal ∷ literal ∷ image_sample 4 ∷ end_function ∷ []) (fault rule.Earlier kind.Expression 4 4 6) (fault rule.Earlier kind.Expression 4 4 6)
-  pub earlier_gradient : Answers (scalar 0 ∷ function ∷ literal ∷ literal ∷ literal ∷ literal ∷ image_sample 3 ∷ end_function ∷ []) None None
+  pub own_gradient : Answers (scalar 0 ∷ function ∷ literal ∷ literal ∷ literal ∷ literal ∷ image_sample 4 ∷ end_function ∷ []) (9 ∷ 6 ∷ 4 ∷ 4 ∷ 6 ∷ []) (9 ∷ 6 ∷ 4 ∷ 4 ∷ 6 ∷ [])
+  pub earlier_gradient : Answers (scalar 0 ∷ function ∷ literal ∷ literal ∷ literal ∷ literal ∷ image_sample 3 ∷ end_function ∷ []) accepted accepted
   -- the size of type 1 is an override whose init is the zero of type 0, or of type 1
-  pub sized : Answers (scalar 0 ∷ override 0 0 ∷ array ∷ zero_value 0 ∷ []) None None
-  pub sized_by_its_zero : Answers (scalar 0 ∷ override 0 0 ∷ array ∷ zero_value 1 ∷ []) (fault rule.Earlier kind.Type 1 1 2) (fault rule.Earlier kind.Type 1 1 2)
+  pub sized : Answers sized_records accepted accepted
+  pub sized_by_its_zero : Answers (scalar 0 ∷ override 0 0 ∷ array ∷ zero_value 1 ∷ []) (9 ∷ 1 ∷ 1 ∷ 1 ∷ 2 ∷ []) (9 ∷ 1 ∷ 1 ∷ 1 ∷ 2 ∷ [])
   -- or it is a constant of type 1
-  pub sized_by_its_constant : Answers (scalar 0 ∷ override 0 1 ∷ array ∷ zero_value 0 ∷ constant 1 0 ∷ constant_value 0 ∷ []) None (fault rule.SealedEarlier kind.Type 1 1 2)
+  pub sized_by_its_constant : Answers ring_records accepted (13 ∷ 1 ∷ 1 ∷ 1 ∷ 2 ∷ [])
   -- a zero of a type that there is not
-  pub no_type : Answers (scalar 0 ∷ zero_value 7 ∷ []) None (fault rule.SealedInside kind.Type 7 0 1)
+  pub no_type : Answers (scalar 0 ∷ zero_value 7 ∷ []) accepted (12 ∷ 1 ∷ 7 ∷ 0 ∷ 1 ∷ [])
   -- a global Binary of itself
-  pub own_operand : Answers (scalar 0 ∷ binary 0 0 ∷ []) None (fault rule.SealedEarlier kind.Expression 0 0 1)
+  pub own_operand : Answers (scalar 0 ∷ binary 0 0 ∷ []) accepted (13 ∷ 6 ∷ 0 ∷ 0 ∷ 1 ∷ [])
   -- a function that calls itself, one that has a result of itself, and an entry point that has one of a function
-  pub own_call : Answers (scalar 0 ∷ function ∷ call 0 ∷ end_function ∷ []) None (fault rule.SealedEarlier kind.Function 0 0 1)
-  pub own_result : Answers (scalar 0 ∷ function ∷ call_result 0 ∷ call 0 ∷ end_function ∷ []) (fault rule.Earlier kind.Function 0 0 1) (fault rule.Earlier kind.Function 0 0 1)
-  pub result_of_function : Answers (scalar 0 ∷ function ∷ end_function ∷ entry_point ∷ call_result 0 ∷ call 0 ∷ end_function ∷ []) None None
+  pub own_call : Answers (scalar 0 ∷ function ∷ call 0 ∷ end_function ∷ []) accepted (13 ∷ 7 ∷ 0 ∷ 0 ∷ 1 ∷ [])
+  pub own_result : Answers (scalar 0 ∷ function ∷ call_result 0 ∷ call 0 ∷ end_function ∷ []) (9 ∷ 7 ∷ 0 ∷ 0 ∷ 1 ∷ []) (9 ∷ 7 ∷ 0 ∷ 0 ∷ 1 ∷ [])
+  pub result_of_function : Answers (scalar 0 ∷ function ∷ end_function ∷ entry_point ∷ call_result 0 ∷ call 0 ∷ end_function ∷ []) accepted accepted
   -- a local variable among the global expressions
-  pub global_local : Answers (scalar 0 ∷ local_variable 0 ∷ []) None (fault rule.Placed kind.Expression 0 0 1)
+  pub global_local : Answers (scalar 0 ∷ local_variable 0 ∷ []) accepted (11 ∷ 6 ∷ 0 ∷ 0 ∷ 1 ∷ [])
 
 -- a row: the type whose size waits for expression 0 stands behind it
 abbrev pub SizedRow : Type 0
-SizedRow = row (module_of (scalar 0 ∷ override 0 0 ∷ array ∷ zero_value 0 ∷ [])) ≡ RowItem.type 0 ∷ RowItem.expression 0 ∷ RowItem.override 0 ∷ RowItem.type 1 ∷ []
+SizedRow = row (module_of sized_records) ≡ RowItem.type 0 ∷ RowItem.expression 0 ∷ RowItem.override 0 ∷ RowItem.type 1 ∷ []
 
--- the size of type 1 is override 0, whose init is expression 1, which is constant 0, which is of type 1
 abbrev pub ring : Module
-ring = module_of (scalar 0 ∷ override 0 1 ∷ array ∷ zero_value 0 ∷ constant 1 0 ∷ constant_value 0 ∷ [])
+ring = module_of ring_records
 
 -- without the rule on types whose size waits for an init there need be no row: that rule alone refuses this module
 pub record RingHasNoRow : Type 0 where
