@@ -37,7 +37,8 @@ use Rattle.promises.specs.Inside.{IsInside, ItemInside, ItemsInside, BodyInside,
 use Rattle.promises.specs.Kept.{UpTo, StandsIn, RecordInside, SealedKept}
 use Rattle.promises.proofs.Handles.{handles_are}
 use Rattle.promises.proofs.Made.{PiecesAre, Made, reached, made, AType, AnExpression, BodyMade, wanted_is, last_are, ModuleMade, module_made}
-use Rattle.promises.proofs.Inside.{module_inside, sealed_draft}
+use Rattle.promises.proofs.Passed.{sealed_draft}
+use Rattle.promises.proofs.Inside.{module_inside}
 use Rattle.promises.proofs.Among.{in_all, from_flat}
 use Rattle.promises.proofs.Opened.{ends_kind, ends_there, Placed, OpenAt, does, opener_is, open_in, function_opens, entry_opens, placed_between, since, few_taken, selected_between}
 use Rattle.promises.proofs.Standing.{stands, all_in_item, place_in_item}

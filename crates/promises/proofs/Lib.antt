@@ -1,5 +1,10 @@
 pub mod Handles
 pub mod Made
+pub mod Tested
+pub mod Globals
+pub mod Inner
+pub mod Openers
+pub mod Passed
 pub mod Inside
 pub mod Among
 pub mod Listed
