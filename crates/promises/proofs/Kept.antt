@@ -1,11 +1,11 @@
 -- Every handle of a kept record is inside, in the body in which the record stands.
-use Rattle.std.proofs.Common.{◌≡◌, ℕ, zero, suc, ◌+◌, ◌-◌, ◌<◌, ◌≤◌, true, List, [], ◌∷◌, ◌++◌, map, length, take, slice_get, flat_map, Some, None, Ok, Option, sym, refl, ap, ◌∙◌, subst, inl, inr, arith}
+use Rattle.std.proofs.Common.{◌≡◌, ℕ, suc, ◌-◌, ◌<◌, ◌≤◌, true, List, [], ◌∷◌, ◌++◌, length, take, slice_get, flat_map, Some, None, Ok, Option, sym, refl, ap, ◌∙◌, subst, inl, inr, arith}
 use Rattle.std.specs.List.{AllByRecursion, enumerate_from}
 use Rattle.std.specs.Option.{option_to_list, option_map, is_none}
 use Rattle.std.proofs.ByRecursion.{All-append, All-weaker}
 use Rattle.std.proofs.lemmas.Bool.{cases_lt}
 use Rattle.std.proofs.lemmas.List.{take_all}
-use Rattle.std.proofs.lemmas.Option.{same_Some, slice_get_within, get_or_from_slice_get}
+use Rattle.std.proofs.lemmas.Option.{same_Some, get_or_from_slice_get}
 use Rattle.ir.specs.declared.kinds.Kind.{Kind}
 use Rattle.ir.specs.declared.kinds.Kind.TheVariants as kind
 use Rattle.ir.specs.declared.kinds.Expression.{Expression}
@@ -15,14 +15,12 @@ use Rattle.rules.specs.declared.sizes.Sizes.{Sizes}
 use Rattle.rules.specs.Module.{Record, Item, Body, Module}
 use Rattle.rules.specs.Sizes.{sizes, sizes_in}
 use Rattle.draft.specs.declared.state.BodyKind.{BodyKind}
-use Rattle.draft.specs.declared.state.BodyKind.TheVariants as body_kind
 use Rattle.draft.specs.declared.state.Pieces.{Pieces}
 use Rattle.draft.specs.declared.state.SlotTable.TheVariants as table
 use Rattle.draft.specs.declared.manner.Side.TheVariants as side
 use Rattle.draft.specs.Manner.{manner_of}
-use Rattle.draft.specs.State.{State, start, state, on_side, functions_now, entries_now}
+use Rattle.draft.specs.State.{State, start, state, functions_now, entries_now}
 use Rattle.draft.specs.Admitted.{Accepted}
-use Rattle.draft.proofs.Stepping.{outside_only}
 use Rattle.laws.specs.Decoded.{Entry, entries_of, entries_of_any, items_entries, body_entries, bodies}
 use Rattle.items.specs.declared.section.Section.{Section}
 use Rattle.items.specs.declared.section.Section.TheVariants.{Numbered, Kinds}
@@ -34,14 +32,15 @@ use Rattle.items.proofs.Places.{wanted, next_at}
 use Rattle.items.proofs.Whole.{module_is}
 use Rattle.row.proofs.Places.{In, in_from_has, has_from_in, in_left, in_either}
 use Rattle.promises.specs.Inside.{IsInside, ItemInside, ItemsInside, BodyInside, ModuleInside}
-use Rattle.promises.specs.Kept.{UpTo, StandsIn, RecordInside, SealedKept}
+use Rattle.promises.specs.Kept.{StandsIn, RecordInside, SealedKept}
 use Rattle.promises.proofs.Handles.{handles_are}
-use Rattle.promises.proofs.Made.{PiecesAre, Made, reached, made, AType, AnExpression, BodyMade, wanted_is, last_are, ModuleMade, module_made}
+use Rattle.promises.proofs.Made.{PiecesAre, Made, reached, made, AType, AnExpression, wanted_is, last_are, ModuleMade, module_made}
 use Rattle.promises.proofs.Passed.{sealed_draft}
 use Rattle.promises.proofs.Inside.{module_inside}
 use Rattle.promises.proofs.Among.{in_all, from_flat}
-use Rattle.promises.proofs.Opened.{ends_kind, ends_there, Placed, OpenAt, does, opener_is, open_in, function_opens, entry_opens, placed_between, since, few_taken, selected_between}
+use Rattle.promises.proofs.Opened.{ends_kind, ends_there, Placed, does, opener_is, open_in, placed_between, since, few_taken, selected_between}
 use Rattle.promises.proofs.Standing.{stands, all_in_item, place_in_item}
+use Rattle.promises.proofs.Bodies.{placed_all, closed_before, BodyAt, from_up_to, stands_open, bodies_are}
 
 module _ (m : List Record) (a : Accepted start m) where
   abbrev before : ℕ → State
@@ -51,22 +50,14 @@ module _ (m : List Record) (a : Accepted start m) where
   abbrev Outer : Item → Type 0
   Outer i = Placed m i × ((before i.place).opened ≡ None)
 
-  placed_all : (sec : Section) → AllByRecursion (Placed m) (items_of sec m)
-  placed_all sec = All-weaker (λ i. (0 ≤ i.place) × (i.place < length m) × Placed m i) (Placed m) (λ i h. h.2) (items_of sec m) (placed_between m a sec 0 (length m) (omega arith))
-
-  closed_before : (k : Kind) (i : Item) → (manner_of k).side ≡ side.Outside → Placed m i → Made k i → (before i.place).opened ≡ None
-  closed_before k i s w h =
-      let d = does m a i k w h.kind_is in
-      outside_only (before i.place).opened (subst (λ z. on_side (before i.place).opened z ≡ true) s d.0.on_its_side)
-
   -- the items of a kind that stands outside only
   outer_items : (k : Kind) → (manner_of k).side ≡ side.Outside → (items : List Item) → AllByRecursion (Placed m) items → AllByRecursion (Made k) items → AllByRecursion Outer items
   outer_items k s [] w h = tt
-  outer_items k s (i ∷ items) w h = ((w.0, closed_before k i s w.0 h.0), outer_items k s items w.1 h.1)
+  outer_items k s (i ∷ items) w h = ((w.0, closed_before m a k i s w.0 h.0), outer_items k s items w.1 h.1)
 
   outer_types : (items : List Item) → AllByRecursion (Placed m) items → AllByRecursion AType items → AllByRecursion Outer items
   outer_types [] w h = tt
-  outer_types (i ∷ items) w h = ((w.0, closed_before (kind.Type h.0.0) i refl w.0 h.0.1), outer_types items w.1 h.1)
+  outer_types (i ∷ items) w h = ((w.0, closed_before m a (kind.Type h.0.0) i refl w.0 h.0.1), outer_types items w.1 h.1)
 
   -- a global expression comes where no body is open
   global_only : (o : Option BodyKind) (y : Expression) → wanted (Numbered table.Expressions) o (kind.Expression y) ≡ true → o ≡ None
@@ -80,60 +71,12 @@ module _ (m : List Record) (a : Accepted start m) where
     outer_expressions items w.1 hs s.1,
   )
 
-  -- a body of the module
-  record BodyAt (b : Body) : Type 0 where
-    item : Item
-    is : b ≡ body_of m item
-    placed : Placed m item
-    kind_of_body : BodyKind
-    opens : OpenAt m (item.place + 1) kind_of_body item
-    before_it : (before item.place).opened ≡ None
-
-  functions_at : (is : List Item) → AllByRecursion (Placed m) is → AllByRecursion (Made kind.Function) is → AllByRecursion BodyAt (map (body_of m) is)
-  functions_at [] w h = tt
-  functions_at (i ∷ is) w h = (
-    record { item = i; is = refl; placed = w.0; kind_of_body = body_kind.Function; opens = function_opens m a i w.0 h.0; before_it = closed_before kind.Function i refl w.0 h.0 },
-    functions_at is w.1 h.1,
-  )
-
-  entries_at : (is : List Item) → AllByRecursion (Placed m) is → AllByRecursion (Made kind.EntryPoint) is → AllByRecursion BodyAt (map (body_of m) is)
-  entries_at [] w h = tt
-  entries_at (i ∷ is) w h = (
-    record { item = i; is = refl; placed = w.0; kind_of_body = body_kind.EntryPoint; opens = entry_opens m a i w.0 h.0; before_it = closed_before kind.EntryPoint i refl w.0 h.0 },
-    entries_at is w.1 h.1,
-  )
-
-  openers_made : (k : Kind) (is : List Item) → AllByRecursion (BodyMade k) (map (body_of m) is) → AllByRecursion (Made k) is
-  openers_made k [] h = tt
-  openers_made k (i ∷ is) h = (h.0.opener, openers_made k is h.1)
-
-  up_to : (to p : ℕ) (o : Option Record) → slice_get m to ≡ o → UpTo (option_map (item_at m to) o) p → (p ≤ to) × (to < length m)
-  up_to to p None e u = absurd u
-  up_to to p (Some r) e u = (u, slice_get_within m to r e)
-
-  from_up_to : (to p : ℕ) (o : Option Record) → slice_get m to ≡ o → to < length m → p ≤ to → UpTo (option_map (item_at m to) o) p
-  from_up_to to p None e l u = absurd (none_within m to e l)
-    where
-      none_within : (xs : List Record) (n : ℕ) → slice_get xs n ≡ None → n < length xs → ⊥
-      none_within [] n e l = absurd (omega arith)
-      none_within (x ∷ xs) zero e l = absurd cc
-      none_within (x ∷ xs) (suc n) e l = none_within xs n e (omega arith)
-  from_up_to to p (Some r) e l u = u
-
-  -- a body is open at what stands in it
-  stands_open : (b : Body) (t : BodyAt b) (p : ℕ) → StandsIn b p → OpenAt m p t.kind_of_body t.item
-  stands_open b t p s =
-      let q : StandsIn (body_of m t.item) p = subst (λ y. StandsIn y p) t.is s in
-      let to = ending_from m (suc t.item.place) in
-      let u = up_to to p (slice_get m to) refl q.1 in
-      open_in m a t.kind_of_body t.item p t.opens q.0 u.0 (let l = u.1 in let n = u.0 in omega arith)
-
-  module _ (closed : (state m).opened ≡ None) (M : Module) (at : AllByRecursion BodyAt (M.functions ++ M.entries)) where
+  module _ (closed : (state m).opened ≡ None) (M : Module) (at : AllByRecursion (BodyAt m a) (M.functions ++ M.entries)) where
     abbrev all_bodies : List Body
     all_bodies = M.functions ++ M.entries
 
     -- every body ends
-    ended : (b : Body) (t : BodyAt b) → ending_from m (suc t.item.place) < length m
+    ended : (b : Body) (t : BodyAt m a b) → ending_from m (suc t.item.place) < length m
     ended b t =
         let to = ending_from m (suc t.item.place) in
         elim (cases_lt to (length m)) [
@@ -152,8 +95,8 @@ module _ (m : List Record) (a : Accepted start m) where
         let place = place_in_item i.0 e (few_taken m a i.0 w.0) i.2 in
         record {
           within = λ b has s.
-              let t = in_all BodyAt all_bodies b at (in_from_has all_bodies b has) in
-              let o = stands_open b t e.0 s in
+              let t = in_all (BodyAt m a) all_bodies b at (in_from_has all_bodies b has) in
+              let o = stands_open m a b t e.0 s in
               let q = since m a i.0 e.0 w.0 place.1 place.0 in
               let no : ◌≡◌ {A = Option BodyKind} None (Some t.kind_of_body) = sym w.1 ∙ sym q.0 ∙ o.opened in
               absurd cc;
@@ -164,7 +107,7 @@ module _ (m : List Record) (a : Accepted start m) where
     abbrev Inner : Item → Item → Type 0
     Inner j i = (j.place < i.place) × (i.place ≤ ending_from m (suc j.place)) × Placed m i
 
-    module _ (b : Body) (has : In all_bodies b) (t : BodyAt b) where
+    module _ (b : Body) (has : In all_bodies b) (t : BodyAt m a b) where
       abbrev j : Item
       j = t.item
 
@@ -188,12 +131,12 @@ module _ (m : List Record) (a : Accepted start m) where
                 let no : ◌≡◌ {A = Option BodyKind} None (Some t.kind_of_body) = sym t.before_it ∙ z.0 ∙ o.opened in
                 absurd cc
           ] in
-          let stands_there : StandsIn b e.0 = subst (λ y. StandsIn y e.0) (sym t.is) (behind, from_up_to to e.0 (slice_get m to) refl ends (omega arith)) in
+          let stands_there : StandsIn b e.0 = subst (λ y. StandsIn y e.0) (sym t.is) (behind, from_up_to m a to e.0 (slice_get m to) refl ends (omega arith)) in
           let handles_inside = all_in_item (IsInside (sizes_in (sizes M) b)) i.0 e i.2 (in_all (ItemInside (sizes_in (sizes M) b)) items i.0 inside i.1) in
           record {
             within = λ c has_c s.
-                let u = in_all BodyAt all_bodies c at (in_from_has all_bodies c has_c) in
-                let v = stands_open c u e.0 s in
+                let u = in_all (BodyAt m a) all_bodies c at (in_from_has all_bodies c has_c) in
+                let v = stands_open m a c u e.0 s in
                 let same : j ≡ u.item = sym o.opener ∙ sym q.1 ∙ v.opener in
                 let bodies_same : b ≡ c = t.is ∙ ap (body_of m) same ∙ sym u.is in
                 subst (λ y. AllByRecursion (IsInside (sizes_in (sizes M) y)) (handles_of e.1)) bodies_same handles_inside;
@@ -205,7 +148,7 @@ module _ (m : List Record) (a : Accepted start m) where
     any_items (Some i) e h = in_left (entries_of i) [] e h
 
     -- what stands in a body, its first and its last record included
-    module _ (j : Item) (has : In all_bodies (body_of m j)) (t : BodyAt (body_of m j)) (same_item : t.item ≡ j) (inside : BodyInside (sizes M) (body_of m j)) where
+    module _ (j : Item) (has : In all_bodies (body_of m j)) (t : (BodyAt m a) (body_of m j)) (same_item : t.item ≡ j) (inside : BodyInside (sizes M) (body_of m j)) where
       abbrev to : ℕ
       to = ending_from m (suc j.place)
 
@@ -291,8 +234,8 @@ module _ (m : List Record) (a : Accepted start m) where
     -- of any body
     any_body : (b : Body) → In all_bodies b → BodyInside (sizes M) b → (e : Entry) → In (body_entries b) e → RecordInside M e.0 e.1
     any_body b has inside e h =
-        let t = in_all BodyAt all_bodies b at has in
-        let moved : BodyAt (body_of m t.item) = record { item = t.item; is = refl; placed = t.placed; kind_of_body = t.kind_of_body; opens = t.opens; before_it = t.before_it } in
+        let t = in_all (BodyAt m a) all_bodies b at has in
+        let moved : (BodyAt m a) (body_of m t.item) = record { item = t.item; is = refl; placed = t.placed; kind_of_body = t.kind_of_body; opens = t.opens; before_it = t.before_it } in
         body_entry t.item (subst (In all_bodies) t.is has) moved refl (subst (BodyInside (sizes M)) t.is inside) (t.placed, t.before_it) e (subst (λ y. In (body_entries y) e) t.is h)
 
   -- what stands in the module that the places make
@@ -303,14 +246,8 @@ module _ (m : List Record) (a : Accepted start m) where
     w : ModuleMade M
     w = module_made m a
 
-    bodies_are : AllByRecursion BodyAt (M.functions ++ M.entries)
-    bodies_are =
-        All-append BodyAt M.functions M.entries
-        (functions_at (items_of (Numbered table.Functions) m) (placed_all (Numbered table.Functions)) (openers_made kind.Function (items_of (Numbered table.Functions) m) w.functions))
-        (entries_at (items_of (Numbered table.EntryPoints) m) (placed_all (Numbered table.EntryPoints)) (openers_made kind.EntryPoint (items_of (Numbered table.EntryPoints) m) w.entries))
-
     outer_of : (items : List Item) → ItemsInside (sizes M) items → AllByRecursion Outer items → (e : Entry) → In (items_entries items) e → RecordInside M e.0 e.1
-    outer_of = outer_entry closed M bodies_are
+    outer_of = outer_entry closed M (bodies_are m a)
 
     abbrev in_module : Module → List Body → List Entry → List Entry
     in_module x bs ws =
@@ -322,37 +259,37 @@ module _ (m : List Record) (a : Accepted start m) where
     module_entry : (e : Entry) → In (in_module M (M.functions ++ M.entries) []) e → RecordInside M e.0 e.1
     module_entry e h =
         elim (in_either (items_entries M.types) _ e h) [
-          | inl g ↦ outer_of M.types inside.types (outer_types M.types (placed_all (Numbered table.Types)) w.types) e g
+          | inl g ↦ outer_of M.types inside.types (outer_types M.types (placed_all m a (Numbered table.Types)) w.types) e g
           | inr h ↦
               elim (in_either (items_entries M.overrides) _ e h) [
-                | inl g ↦ outer_of M.overrides inside.overrides (outer_items kind.Override refl M.overrides (placed_all (Numbered table.Overrides)) w.overrides) e g
+                | inl g ↦ outer_of M.overrides inside.overrides (outer_items kind.Override refl M.overrides (placed_all m a (Numbered table.Overrides)) w.overrides) e g
                 | inr h ↦
                     elim (in_either (items_entries M.constants) _ e h) [
-                      | inl g ↦ outer_of M.constants inside.constants (outer_items kind.Constant refl M.constants (placed_all (Numbered table.Constants)) w.constants) e g
+                      | inl g ↦ outer_of M.constants inside.constants (outer_items kind.Constant refl M.constants (placed_all m a (Numbered table.Constants)) w.constants) e g
                       | inr h ↦
                           elim (in_either (items_entries M.globals) _ e h) [
-                            | inl g ↦ outer_of M.globals inside.globals (outer_items kind.GlobalVariable refl M.globals (placed_all (Numbered table.GlobalVariables)) w.globals) e g
+                            | inl g ↦ outer_of M.globals inside.globals (outer_items kind.GlobalVariable refl M.globals (placed_all m a (Numbered table.GlobalVariables)) w.globals) e g
                             | inr h ↦
                                 elim (in_either (entries_of_any M.special) _ e h) [
-                                  | inl g ↦ outer_of (option_to_list M.special) inside.special (outer_items kind.SpecialTypes refl (option_to_list M.special) (last_are (Placed m) (items_of (Kinds 6 6) m) (placed_all (Kinds 6 6))) w.special) e (any_items closed M bodies_are M.special e g)
+                                  | inl g ↦ outer_of (option_to_list M.special) inside.special (outer_items kind.SpecialTypes refl (option_to_list M.special) (last_are (Placed m) (items_of (Kinds 6 6) m) (placed_all m a (Kinds 6 6))) w.special) e (any_items closed M (bodies_are m a) M.special e g)
                                   | inr h ↦
                                       elim (in_either (items_entries M.predeclared) _ e h) [
-                                        | inl g ↦ outer_of M.predeclared inside.predeclared (outer_items kind.Predeclared refl M.predeclared (placed_all (Kinds 7 7)) w.predeclared) e g
+                                        | inl g ↦ outer_of M.predeclared inside.predeclared (outer_items kind.Predeclared refl M.predeclared (placed_all m a (Kinds 7 7)) w.predeclared) e g
                                         | inr h ↦
                                             elim (in_either (items_entries M.filters) _ e h) [
-                                              | inl g ↦ outer_of M.filters inside.filters (outer_items kind.Filter refl M.filters (placed_all (Numbered table.Filters)) w.filters) e g
+                                              | inl g ↦ outer_of M.filters inside.filters (outer_items kind.Filter refl M.filters (placed_all m a (Numbered table.Filters)) w.filters) e g
                                               | inr h ↦
                                                   elim (in_either (entries_of_any M.leaf) _ e h) [
-                                                    | inl g ↦ outer_of (option_to_list M.leaf) inside.leaf (outer_items kind.Leaf refl (option_to_list M.leaf) (last_are (Placed m) (items_of (Kinds 9 9) m) (placed_all (Kinds 9 9))) w.leaf) e (any_items closed M bodies_are M.leaf e g)
+                                                    | inl g ↦ outer_of (option_to_list M.leaf) inside.leaf (outer_items kind.Leaf refl (option_to_list M.leaf) (last_are (Placed m) (items_of (Kinds 9 9) m) (placed_all m a (Kinds 9 9))) w.leaf) e (any_items closed M (bodies_are m a) M.leaf e g)
                                                     | inr h ↦
                                                         elim (in_either (items_entries M.expressions) _ e h) [
-                                                          | inl g ↦ outer_of M.expressions inside.expressions (outer_expressions M.expressions (placed_all (Numbered table.Expressions)) w.expressions (selected_between m a (Numbered table.Expressions) (length m) 0 (length m) (omega arith) (omega arith))) e g
+                                                          | inl g ↦ outer_of M.expressions inside.expressions (outer_expressions M.expressions (placed_all m a (Numbered table.Expressions)) w.expressions (selected_between m a (Numbered table.Expressions) (length m) 0 (length m) (omega arith) (omega arith))) e g
                                                           | inr h ↦
                                                               elim (in_either (flat_map body_entries (M.functions ++ M.entries)) [] e h) [
                                                                 | inl g ↦
                                                                     let b = from_flat body_entries (M.functions ++ M.entries) e g in
                                                                     let both = All-append (BodyInside (sizes M)) M.functions M.entries inside.functions inside.entries in
-                                                                    any_body closed M bodies_are b.0 b.1 (in_all (BodyInside (sizes M)) (M.functions ++ M.entries) b.0 both b.1) e b.2
+                                                                    any_body closed M (bodies_are m a) b.0 b.1 (in_all (BodyInside (sizes M)) (M.functions ++ M.entries) b.0 both b.1) e b.2
                                                                 | inr g ↦ absurd g
                                                               ]
                                                         ]

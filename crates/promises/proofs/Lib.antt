@@ -14,4 +14,5 @@ pub mod Promises
 pub mod Samples
 pub mod Opened
 pub mod Standing
+pub mod Bodies
 pub mod Kept
