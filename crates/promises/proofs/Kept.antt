@@ -1,5 +1,5 @@
 -- Every handle of a kept record is inside, in the body in which the record stands.
-use Rattle.std.proofs.Common.{◌≡◌, ℕ, suc, ◌-◌, ◌<◌, ◌≤◌, true, List, [], ◌∷◌, ◌++◌, length, take, slice_get, flat_map, Some, None, Ok, Option, sym, refl, ap, ◌∙◌, subst, inl, inr, arith}
+use Rattle.std.proofs.Common.{◌≡◌, ℕ, suc, ◌-◌, ◌<◌, ◌≤◌, ◌⊎◌, true, List, [], ◌∷◌, ◌++◌, length, take, slice_get, flat_map, Some, None, Ok, Option, sym, refl, ap, ◌∙◌, subst, inl, inr, arith}
 use Rattle.std.specs.List.{AllByRecursion, enumerate_from}
 use Rattle.std.specs.Option.{option_to_list, option_map, is_none}
 use Rattle.std.proofs.ByRecursion.{All-append, All-weaker}
@@ -21,7 +21,7 @@ use Rattle.draft.specs.declared.manner.Side.TheVariants as side
 use Rattle.draft.specs.Manner.{manner_of}
 use Rattle.draft.specs.State.{State, start, state, functions_now, entries_now}
 use Rattle.draft.specs.Admitted.{Accepted}
-use Rattle.laws.specs.Decoded.{Entry, entries_of, entries_of_any, items_entries, body_entries, bodies}
+use Rattle.laws.specs.Decoded.{Entry, entries_of, entries_of_any, items_entries, body_entries, bodies, Replaced}
 use Rattle.items.specs.declared.section.Section.{Section}
 use Rattle.items.specs.declared.section.Section.TheVariants.{Numbered, Kinds}
 use Rattle.items.specs.Sections.{selects}
@@ -30,7 +30,9 @@ use Rattle.items.specs.Whole.{items_of, ends, ending_from, body_of, module_of}
 use Rattle.items.proofs.Between.{front}
 use Rattle.items.proofs.Places.{wanted, next_at}
 use Rattle.items.proofs.Whole.{module_is}
+use Rattle.row.specs.Row.{Has}
 use Rattle.row.proofs.Places.{In, in_from_has, has_from_in, in_left, in_either}
+use Rattle.sealing.specs.Seal.{seal_of}
 use Rattle.promises.specs.Inside.{IsInside, ItemInside, ItemsInside, BodyInside, ModuleInside}
 use Rattle.promises.specs.Kept.{StandsIn, RecordInside, SealedKept}
 use Rattle.promises.proofs.Handles.{handles_are}
@@ -49,6 +51,11 @@ module _ (m : List Record) (a : Accepted start m) where
   -- an item that stands outside of all bodies
   abbrev Outer : Item → Type 0
   Outer i = Placed m i × ((before i.place).opened ≡ None)
+
+  -- a record that stands in the module: what its handles name, and where it stands
+  pub record Found (M : Module) (e : Entry) : Type 0 where
+    pub inside : RecordInside M e.0 e.1
+    pub place : ((before e.0).opened ≡ None) ⊎ ((b : Body) × Has (M.functions ++ M.entries) b × StandsIn b e.0)
 
   -- the items of a kind that stands outside only
   outer_items : (k : Kind) → (manner_of k).side ≡ side.Outside → (items : List Item) → AllByRecursion (Placed m) items → AllByRecursion (Made k) items → AllByRecursion Outer items
@@ -88,19 +95,22 @@ module _ (m : List Record) (a : Accepted start m) where
         ]
 
     -- what an item outside of all bodies holds
-    outer_entry : (items : List Item) → ItemsInside (sizes M) items → AllByRecursion Outer items → (e : Entry) → In (items_entries items) e → RecordInside M e.0 e.1
+    outer_entry : (items : List Item) → ItemsInside (sizes M) items → AllByRecursion Outer items → (e : Entry) → In (items_entries items) e → Found M e
     outer_entry items inside outer e h =
         let i = from_flat entries_of items e h in
         let w = in_all Outer items i.0 outer i.1 in
         let place = place_in_item i.0 e (few_taken m a i.0 w.0) i.2 in
+        let q = since m a i.0 e.0 w.0 place.1 place.0 in
         record {
-          within = λ b has s.
-              let t = in_all (BodyAt m a) all_bodies b at (in_from_has all_bodies b has) in
-              let o = stands_open m a b t e.0 s in
-              let q = since m a i.0 e.0 w.0 place.1 place.0 in
-              let no : ◌≡◌ {A = Option BodyKind} None (Some t.kind_of_body) = sym w.1 ∙ sym q.0 ∙ o.opened in
-              absurd cc;
-          outside = λ none. all_in_item (IsInside (sizes M)) i.0 e i.2 (in_all (ItemInside (sizes M)) items i.0 inside i.1);
+          inside = record {
+            within = λ b has s.
+                let t = in_all (BodyAt m a) all_bodies b at (in_from_has all_bodies b has) in
+                let o = stands_open m a b t e.0 s in
+                let no : ◌≡◌ {A = Option BodyKind} None (Some t.kind_of_body) = sym w.1 ∙ sym q.0 ∙ o.opened in
+                absurd cc;
+            outside = λ none. all_in_item (IsInside (sizes M)) i.0 e i.2 (in_all (ItemInside (sizes M)) items i.0 inside i.1);
+          };
+          place = inl (q.0 ∙ w.1);
         }
 
     -- an item that stands in a body
@@ -111,7 +121,7 @@ module _ (m : List Record) (a : Accepted start m) where
       abbrev j : Item
       j = t.item
 
-      inner_entry : (items : List Item) → ItemsInside (sizes_in (sizes M) b) items → AllByRecursion (Inner j) items → (e : Entry) → In (items_entries items) e → RecordInside M e.0 e.1
+      inner_entry : (items : List Item) → ItemsInside (sizes_in (sizes M) b) items → AllByRecursion (Inner j) items → (e : Entry) → In (items_entries items) e → Found M e
       inner_entry items inside inner e h =
           let i = from_flat entries_of items e h in
           let w = in_all (Inner j) items i.0 inner i.1 in
@@ -134,13 +144,16 @@ module _ (m : List Record) (a : Accepted start m) where
           let stands_there : StandsIn b e.0 = subst (λ y. StandsIn y e.0) (sym t.is) (behind, from_up_to m a to e.0 (slice_get m to) refl ends (omega arith)) in
           let handles_inside = all_in_item (IsInside (sizes_in (sizes M) b)) i.0 e i.2 (in_all (ItemInside (sizes_in (sizes M) b)) items i.0 inside i.1) in
           record {
-            within = λ c has_c s.
-                let u = in_all (BodyAt m a) all_bodies c at (in_from_has all_bodies c has_c) in
-                let v = stands_open m a c u e.0 s in
-                let same : j ≡ u.item = sym o.opener ∙ sym q.1 ∙ v.opener in
-                let bodies_same : b ≡ c = t.is ∙ ap (body_of m) same ∙ sym u.is in
-                subst (λ y. AllByRecursion (IsInside (sizes_in (sizes M) y)) (handles_of e.1)) bodies_same handles_inside;
-            outside = λ none. absurd (none b (has_from_in all_bodies b has) stands_there);
+            inside = record {
+              within = λ c has_c s.
+                  let u = in_all (BodyAt m a) all_bodies c at (in_from_has all_bodies c has_c) in
+                  let v = stands_open m a c u e.0 s in
+                  let same : j ≡ u.item = sym o.opener ∙ sym q.1 ∙ v.opener in
+                  let bodies_same : b ≡ c = t.is ∙ ap (body_of m) same ∙ sym u.is in
+                  subst (λ y. AllByRecursion (IsInside (sizes_in (sizes M) y)) (handles_of e.1)) bodies_same handles_inside;
+              outside = λ none. absurd (none b (has_from_in all_bodies b has) stands_there);
+            };
+            place = inr (b, has_from_in all_bodies b has, stands_there);
           }
 
     any_items : (o : Option Item) (e : Entry) → In (entries_of_any o) e → In (items_entries (option_to_list o)) e
@@ -168,7 +181,7 @@ module _ (m : List Record) (a : Accepted start m) where
           (λ i h. subst (λ k. Inner k i) (sym same_item) (let x = h.0 in omega arith, let y = h.1 in omega arith, h.2))
           (items_between sec m (suc j.place) to) (placed_between m a sec (suc j.place) to (omega arith))
 
-      inner_of : (items : List Item) → ItemsInside in_body items → AllByRecursion (Inner t.item) items → (e : Entry) → In (items_entries items) e → RecordInside M e.0 e.1
+      inner_of : (items : List Item) → ItemsInside in_body items → AllByRecursion (Inner t.item) items → (e : Entry) → In (items_entries items) e → Found M e
       inner_of = inner_entry b has t
 
       module _ (r : Record) (at_end : slice_get m to ≡ Some r) where
@@ -194,13 +207,13 @@ module _ (m : List Record) (a : Accepted start m) where
             (subst (AllByRecursion (IsInside in_body)) (sym (handles_are r kind.EndFunction last_kind)) tt)
             (subst (λ ts. AllByRecursion (IsInside in_body) (flat_map handles_of ts)) (sym none) tt)
 
-      ending_entry : (o : Option Record) → slice_get m to ≡ o → (e : Entry) → In (entries_of_any (option_map (item_at m to) o)) e → RecordInside M e.0 e.1
+      ending_entry : (o : Option Record) → slice_get m to ≡ o → (e : Entry) → In (entries_of_any (option_map (item_at m to) o)) e → Found M e
       ending_entry None q e h = absurd h
       ending_entry (Some r) q e h =
           let later : j.place < to = omega arith in
           inner_of (last r q ∷ []) (last_inside r q, tt) (subst (λ k. Inner k (last r q)) (sym same_item) (later, omega arith, last_placed r q), tt) e (in_left (entries_of (last r q)) [] e h)
 
-      body_entry : Outer j → (e : Entry) → In (body_entries b) e → RecordInside M e.0 e.1
+      body_entry : Outer j → (e : Entry) → In (body_entries b) e → Found M e
       body_entry outer e h =
           elim (in_either (entries_of b.opener) _ e h) [
             | inl g ↦ outer_entry (j ∷ []) (inside.opener, tt) (outer, tt) e (in_left (entries_of j) [] e g)
@@ -232,7 +245,7 @@ module _ (m : List Record) (a : Accepted start m) where
           ]
 
     -- of any body
-    any_body : (b : Body) → In all_bodies b → BodyInside (sizes M) b → (e : Entry) → In (body_entries b) e → RecordInside M e.0 e.1
+    any_body : (b : Body) → In all_bodies b → BodyInside (sizes M) b → (e : Entry) → In (body_entries b) e → Found M e
     any_body b has inside e h =
         let t = in_all (BodyAt m a) all_bodies b at has in
         let moved : (BodyAt m a) (body_of m t.item) = record { item = t.item; is = refl; placed = t.placed; kind_of_body = t.kind_of_body; opens = t.opens; before_it = t.before_it } in
@@ -246,7 +259,7 @@ module _ (m : List Record) (a : Accepted start m) where
     w : ModuleMade M
     w = module_made m a
 
-    outer_of : (items : List Item) → ItemsInside (sizes M) items → AllByRecursion Outer items → (e : Entry) → In (items_entries items) e → RecordInside M e.0 e.1
+    outer_of : (items : List Item) → ItemsInside (sizes M) items → AllByRecursion Outer items → (e : Entry) → In (items_entries items) e → Found M e
     outer_of = outer_entry closed M (bodies_are m a)
 
     abbrev in_module : Module → List Body → List Entry → List Entry
@@ -256,7 +269,7 @@ module _ (m : List Record) (a : Accepted start m) where
         ++ (items_entries x.filters ++ (entries_of_any x.leaf ++ (items_entries x.expressions
         ++ (flat_map body_entries bs ++ ws)))))))))
 
-    module_entry : (e : Entry) → In (in_module M (M.functions ++ M.entries) []) e → RecordInside M e.0 e.1
+    module_entry : (e : Entry) → In (in_module M (M.functions ++ M.entries) []) e → Found M e
     module_entry e h =
         elim (in_either (items_entries M.types) _ e h) [
           | inl g ↦ outer_of M.types inside.types (outer_types M.types (placed_all m a (Numbered table.Types)) w.types) e g
@@ -313,8 +326,9 @@ none_waiting s e p = go s.waits e p
 no_entries : (n : ℕ) (ws : List Record) → ws ≡ [] → enumerate_from (n - length ws) ws ≡ []
 no_entries n ws e = ap (λ l. enumerate_from (n - length l) l) e
 
-pub sealed_kept : SealedKept
-sealed_kept m a e p r h =
+-- a kept record stands in the module, or a later one replaced it
+pub found : (m : List Record) (a : Accepted start m) → seal_of (state m) ≡ None → (p : ℕ) (r : Record) → slice_get m p ≡ Some r → Found m a (module_of m) (p, r) ⊎ Replaced (state m) (p, r)
+found m a e p r h =
     let d = sealed_draft m a e in
     let s = state m in
     let is = module_is m a d.closed in
@@ -327,6 +341,14 @@ sealed_kept m a e p r h =
           let g1 = subst (λ y. In (all s.built (bodies s) y) (p, r)) ws g in
           let g2 = subst (λ y. In (all s.built y []) (p, r)) bs g1 in
           let g3 = subst (λ y. In (all y (y.functions ++ y.entries) []) (p, r)) is g2 in
-          inr (subst (λ y. RecordInside y p r) (sym is) (module_entry m a d.closed inside (p, r) g3))
+          inl (module_entry m a d.closed inside (p, r) g3)
+      | inr g ↦ inr g
+    ]
+
+pub sealed_kept : SealedKept
+sealed_kept m a e p r h =
+    let d = sealed_draft m a e in
+    elim (found m a e p r h) [
+      | inl f ↦ inr (subst (λ y. RecordInside y p r) (sym (module_is m a d.closed)) f.inside)
       | inr g ↦ inl g
     ]

@@ -16,3 +16,4 @@ pub mod Opened
 pub mod Standing
 pub mod Bodies
 pub mod Kept
+pub mod KeptNumbers

@@ -1,13 +1,15 @@
 -- Every handle of every kept record of a sealed draft is inside, in the right body.
-use Rattle.std.specs.Prelude.{◌≡◌, ℕ, ◌<◌, ◌≤◌, ◌⊎◌, List, ◌++◌, Some, None, Option}
+use Rattle.std.specs.Prelude.{◌≡◌, ℕ, ◌<◌, ◌≤◌, ◌⊎◌, true, ◌||◌, List, ◌++◌, length, drop, Some, None, Option}
 use Rattle.std.specs.List.{AllByRecursion, slice_get}
 use Rattle.records.specs.Handles.{handles_of}
+use Rattle.records.specs.Record.{number}
 use Rattle.rules.specs.Module.{Record, Item, Body, Module}
+use Rattle.rules.specs.Kinds.{Emit, starts_with}
 use Rattle.rules.specs.Sizes.{sizes, sizes_in}
 use Rattle.draft.specs.State.{start, state}
 use Rattle.draft.specs.Admitted.{Accepted}
 use Rattle.laws.specs.Decoded.{Replaced}
-use Rattle.sealing.specs.Seal.{seal_of}
+use Rattle.sealing.specs.Seal.{FunctionArgument, seal_of}
 use Rattle.row.specs.Row.{Has}
 use Rattle.promises.specs.Inside.{IsInside}
 
@@ -34,3 +36,18 @@ SealedKept =
     (records : List Record) → Accepted start records → seal_of (state records) ≡ None
     → (p : ℕ) (r : Record) → slice_get records p ≡ Some r
     → Replaced (state records) (p, r) ⊎ RecordInside (state records).built p r
+
+-- the numbers that are no handles, of the record at a place of the draft of a module
+pub record NumbersInside (m : Module) (p : ℕ) (r : Record) : Type 0 where
+  -- every expression that an Emit covers is one of its body
+  pub emitted : (b : Body) → Has (m.functions ++ m.entries) b → StandsIn b p → starts_with Emit r ≡ true → (n : ℕ) → number (drop 1 r) ≤ n → n < number (drop 5 r) → n < length b.expressions
+  -- the argument that a FunctionArgument gives is one of its body
+  pub given : (b : Body) → Has (m.functions ++ m.entries) b → StandsIn b p → starts_with FunctionArgument r ≡ true → number (drop 1 r) < length b.arguments
+  -- and each of the two stands in a body
+  pub placed : (starts_with Emit r || starts_with FunctionArgument r) ≡ true → (b : Body) × Has (m.functions ++ m.entries) b × StandsIn b p
+
+-- so it is with every kept record of every draft that sealing accepts
+abbrev pub SealedNumbers : Type 0
+SealedNumbers =
+    (records : List Record) → Accepted start records → seal_of (state records) ≡ None
+    → (p : ℕ) (r : Record) → slice_get records p ≡ Some r → NumbersInside (state records).built p r
