@@ -42,7 +42,7 @@ use Rattle.promises.specs.Rows.{RowItem, IsItemOf, item_at, handle_of, PointsTo,
 use Rattle.promises.proofs.Handles.{same_code, fields_most, own_is}
 use Rattle.promises.proofs.Made.{allowed_of, Made, AType, AnExpression, ModuleMade}
 use Rattle.promises.proofs.Tested.{only, pieces_allowed, pieces_are_allowed}
-use Rattle.promises.proofs.Globals.{type_tables, type_takes, one_size, expression_takes, one_constant, one_override, constants_tested, overrides_tested}
+use Rattle.promises.proofs.Globals.{type_takes, one_size, expression_takes, one_constant, one_override, constants_tested, overrides_tested}
 use Rattle.promises.proofs.Passed.{ModulePassed, sealed_draft}
 use Rattle.promises.proofs.Inside.{module_inside}
 use Rattle.promises.proofs.Among.{in_all, in_flat, in_map, from_map, at_is, in_numbers, above_over, above_under}
@@ -69,6 +69,11 @@ one_type expression.Literal = omega arith
 one_type y = omega arith
 
 -- which tables the handles of a type and of a value are of
+
+abbrev type_tables : Table → Bool
+type_tables table.Types = true
+type_tables table.Overrides = true
+type_tables _ = false
 
 abbrev value_tables : Table → Bool
 value_tables table.Types = true

@@ -7,7 +7,7 @@ use Rattle.draft.specs.Admitted.{Accepted}
 use Rattle.laws.specs.Decoded.{Replaced}
 use Rattle.sealing.specs.Seal.{seal_of}
 use Rattle.promises.specs.Inside.{ModuleInside}
-use Rattle.promises.specs.Kept.{RecordInside}
+use Rattle.promises.specs.Kept.{RecordInside, NumbersInside}
 use Rattle.promises.specs.Rows.{RowItem, IsModuleRow}
 
 pub record Promises (records : List Record) : Type 0 where
@@ -15,6 +15,8 @@ pub record Promises (records : List Record) : Type 0 where
   pub inside : ModuleInside (state records).built
   -- so is every handle of every kept record, unless a later one replaced it
   pub kept : (p : ℕ) (r : Record) → slice_get records p ≡ Some r → Replaced (state records) (p, r) ⊎ RecordInside (state records).built p r
+  -- so is every expression that a kept Emit covers, and every argument that a kept FunctionArgument gives
+  pub numbers : (p : ℕ) (r : Record) → slice_get records p ≡ Some r → NumbersInside (state records).built p r
   -- types, overrides, constants and global expressions can stand in one row, each once and after all of these that its
   -- handles point to
   pub row : List RowItem

@@ -95,14 +95,6 @@ row_items m =
 unfoldable pub row : Module → List RowItem
 row m = sort (rank m) (row_items m)
 
--- what an item of the four tables points to is one of them, of a smaller rank
-abbrev pub RanksFall : Module → Type 0
-RanksFall m = (x y : RowItem) → IsItemOf m x → PointsTo m x y → IsItemOf m y × (rank m y < rank m x)
-
--- so it is in the module of every draft that sealing accepts
-abbrev pub SealedRanks : Type 0
-SealedRanks = (records : List Record) → Accepted start records → seal_of (state records) ≡ None → RanksFall (state records).built
-
--- and its row is a row
+-- in the module of every draft that sealing accepts, it is a row
 abbrev pub SealedRow : Type 0
 SealedRow = (records : List Record) → Accepted start records → seal_of (state records) ≡ None → IsModuleRow (state records).built (row (state records).built)

@@ -1,6 +1,6 @@
 -- In the order of their ranks items are a row.
-use Rattle.std.proofs.Common.{◌≡◌, ℕ, zero, suc, ◌<◌, ◌≤◌, Bool, true, false, cond, nat_le, List, [], ◌∷◌, Some, slice_get, refl, sym, ap, ◌∙◌, inl, inr, arith}
-use Rattle.std.proofs.lemmas.Bool.{cases_eq, cases_lt, leb-true, leb-false}
+use Rattle.std.proofs.Common.{◌≡◌, ℕ, zero, suc, ◌<◌, ◌≤◌, Bool, true, false, cond, nat_le, List, [], ◌∷◌, Some, slice_get, refl, sym, ap, inl, inr, arith}
+use Rattle.std.proofs.lemmas.Bool.{leb-true, leb-false}
 use Rattle.std.proofs.lemmas.Option.{same_Some}
 use Rattle.row.specs.Row.{Has, IsRow, insert, sort, RankedIsRow}
 use Rattle.row.proofs.Places.{In, Apart, in_from_get, in_from_has, has_from_in, once_from_apart, apart_from_once}
@@ -51,13 +51,13 @@ module _ {X : Type 0} (rank : X → ℕ) where
         forth = λ z h. i.forth z (elim h [ inl e ↦ inl e | inr j ↦ inr (s.forth z j) ]);
       }
 
-  -- by places
-  by_places : (zs : List X) → Rising zs → Rises rank zs
-  by_places [] r j k x y l h g = absurd cc
-  by_places (z ∷ zs) r zero zero x y l h g = absurd (omega arith)
-  by_places (z ∷ zs) r zero (suc k) x y l h g = let a = ap rank (same_Some z x h) in let b = r.0 y (in_from_get zs k y g) in omega arith
-  by_places (z ∷ zs) r (suc j) zero x y l h g = absurd (omega arith)
-  by_places (z ∷ zs) r (suc j) (suc k) x y l h g = by_places zs r.1 j k x y (omega arith) h g
+  -- in a list that rises, what has a smaller rank stands before
+  earlier : (zs : List X) → Rising zs → (j k : ℕ) (x y : X) → slice_get zs j ≡ Some x → slice_get zs k ≡ Some y → rank y < rank x → k < j
+  earlier [] r j k x y h g l = absurd cc
+  earlier (z ∷ zs) r zero zero x y h g l = let a = ap rank (same_Some z x h) in let b = ap rank (same_Some z y g) in omega arith
+  earlier (z ∷ zs) r zero (suc k) x y h g l = let a = ap rank (same_Some z x h) in let b = r.0 y (in_from_get zs k y g) in absurd (omega arith)
+  earlier (z ∷ zs) r (suc j) zero x y h g l = omega arith
+  earlier (z ∷ zs) r (suc j) (suc k) x y h g l = let e = earlier zs r.1 j k x y h g l in omega arith
 
 -- any list of the items in the order of their ranks is a row
 pub sorted_is_row : {X : Type 0} (Points : X → X → Type 0) (items row : List X) (rank : X → ℕ) → Sorted rank items row → ((x y : X) → Has items x → Points x y → Has items y) → ((x y : X) → Has items x → Points x y → rank y < rank x) → IsRow (Has items) Points row
@@ -65,34 +65,13 @@ sorted_is_row {X} Points items row rank s closed falls =
     let back : (x : X) → Has row x → Has items x = λ x h. has_from_in items x (s.back x (in_from_has row x h)) in
     let forth : (x : X) → Has items x → Has row x = λ x h. has_from_in row x (s.forth x (in_from_has items x h)) in
     record {
-      each = λ x h. has_from_in row x (s.forth x (in_from_has items x h));
-      only = λ x h. has_from_in items x (s.back x (in_from_has row x h));
+      each = forth;
+      only = back;
       once = once_from_apart row s.apart;
-      rises = by_places rank row s.rising;
-    }
-
--- what has a smaller rank stands before
-before : {X : Type 0} (rank : X → ℕ) (row : List X) → Rises rank row → (j k : ℕ) (x y : X) → slice_get row j ≡ Some x → slice_get row k ≡ Some y → rank y < rank x → k < j
-before rank row r j k x y h g l =
-    elim (cases_lt k j) [
-      | inl b ↦ b
-      | inr b ↦
-          elim (cases_eq j k) [
-            | inl e ↦ let same = ap rank (same_Some x y (sym h ∙ ap (slice_get row) e ∙ g)) in absurd (omega arith)
-            | inr d ↦ let m = r j k x y (omega arith) h g in absurd (omega arith)
-          ]
-    ]
-
-pub rising_is_row : (X : Type 0) (Inside : X → Type 0) (Points : X → X → Type 0) → RisingIsRow X Inside Points
-rising_is_row X Inside Points rank falls row each only once rises =
-    record {
-      each = each;
-      only = only;
-      once = once;
       after = λ j x y h p.
-          let f = falls x y (only x (j, h)) p in
-          let a = each y f.0 in
-          (a.0, before rank row rises j a.0 x y h a.1 f.1, a.1);
+          let i = back x (j, h) in
+          let a = forth y (closed x y i p) in
+          (a.0, earlier rank row s.rising j a.0 x y h a.1 (falls x y i p), a.1);
     }
 
 pub ranked_is_row : (X : Type 0) (Points : X → X → Type 0) → RankedIsRow X Points
