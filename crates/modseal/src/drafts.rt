@@ -8,6 +8,7 @@ ghost use Rattle.arena.specs.Memory.{Stands, records, Accepted-prop};
 ghost use Rattle.arena.specs.Put.{put_def};
 ghost use Rattle.arena.specs.Viewing.{viewed};
 ghost use Rattle.sealing.specs.Seal.{seal_of};
+ghost use Rattle.seal.specs.Sealed.{IsSealedDraft, sealed_records};
 ghost use Rattle.owned.specs.Kept.{kept_in};
 ghost use Rattle.owned.specs.Putting.{put_all};
 ghost use Rattle.modseal.specs.Putting.{Put, PutOrFails};
@@ -51,7 +52,9 @@ pub trait AnyDraft {
 
     /// The draft sealed, or why it is not.
     fn sealed(&self) -> Result<Sealed<'_>, Rejection>
-        ensures { result_err result ≡ seal_of (state (kept self.now)) };
+        ensures answer { result_err result ≡ seal_of (state (kept self.now)) }
+        ensures readable { IfOk result IsSealedDraft }
+        ensures same { IfOk result (λ s. sealed_records s ≡ kept self.now) };
 }
 
 /// A draft in memory that does not grow.

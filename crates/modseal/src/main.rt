@@ -28,7 +28,9 @@ report puts each record of each FILE, or of standard input where no FILE is name
 or FILE is -, into a new draft, and prints its index from 0, its offset, its kind,
 the number that it got and its fields, or the number of its refusal, which ends
 the report of that image; at last how many items each table has, what each number
-names, and whether the module of what was kept passes the check and is sealed
+names, whether the module of what was kept passes the check and is sealed, and if it
+is a row of its types, overrides, constants and global expressions, each after all
+of these that its handles point to
 
 check prints one line for each FILE, NAME: check passed, or why it is refused by the
 draft or the check; the status is 1 where one is refused; seal does likewise, and
@@ -36,7 +38,8 @@ tests also what the check leaves out
 
 --plain       one line a record: record INDEX KIND NUMBER, or
               record INDEX KIND refused NUMBER; at last check passed, or
-              check NUMBER KIND FIRST SECOND POSITION, and the same for seal
+              check NUMBER KIND FIRST SECOND POSITION, the same for seal, and
+              row TABLE:NUMBER... where the module is sealed
               (check, seal: NAME: check passed, or
               NAME: check NUMBER KIND FIRST SECOND POSITION)
 --keep-going  report: go on behind a refused record
@@ -87,6 +90,7 @@ impl Inputs<'_> {
         }
         let mut reporter = Reporter {
             out: &mut out,
+            heap,
             options,
         };
         let passed = match (options.bytes, options.slots) {

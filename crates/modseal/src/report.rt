@@ -1,13 +1,18 @@
 //! The report of one image.
+ghost use Rattle.seal.specs.Sealed.{IsSealedDraft};
+
 use crate::drafts::{AnyDraft, Outcome};
 use crate::named::show_names;
-use crate::show::{Fields, Totals};
+use crate::show::{Fields, Numbered, Totals};
 use crate::verdict;
 use crate::verdict::Question;
 use arena::answer::answered_number;
 use arena::view::View;
 use command::Options;
+use module_row::rows::row;
 use records::image::{Record, Records};
+use seal::sealed::Sealed;
+use std::alloc::Global;
 use std::fmt::Display;
 use std::io::Write;
 use std::{fmt, io};
@@ -73,6 +78,7 @@ impl Display for Full<'_> {
 #[derive(Drop)]
 pub struct Reporter<'a, W> {
     pub out: &'a mut W,
+    pub heap: Global,
     pub options: Options,
 }
 
@@ -97,6 +103,17 @@ impl<W: Write> Reporter<'_, W> {
         }
     }
 
+    /// Shows a row of a sealed draft.
+    fn show_row(&mut self, sealed: &Sealed<'_>) -> io::Result<()>
+        requires { IsSealedDraft sealed.now }
+    {
+        write!(self.out, "row")?;
+        for item in &row(self.heap, sealed)? {
+            write!(self.out, " {}", Numbered(*item))?;
+        }
+        writeln!(self.out)
+    }
+
     /// Shows what the draft has come to.
     fn show_end<D: AnyDraft>(&mut self, draft: &D) -> io::Result<()> {
         let view = draft.view();
@@ -105,7 +122,12 @@ impl<W: Write> Reporter<'_, W> {
             show_names(self.out, view)?;
         }
         self.show_answer(verdict::Plain::of(Question::Check, draft), view)?;
-        self.show_answer(verdict::Plain::of(Question::Seal, draft), view)
+        let sealed = draft.sealed();
+        self.show_answer(verdict::Plain::sealed(&sealed), view)?;
+        match sealed {
+            Ok(sealed) => self.show_row(&sealed),
+            Err(_) => Ok(()),
+        }
     }
 
     /// Puts each record of an image into a new draft and shows what it answered, up to the first that

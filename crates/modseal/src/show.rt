@@ -2,6 +2,7 @@
 use draft::counts::Counts;
 use ir::fields::{Cases, Field, Word};
 use ir::kinds::Kind;
+use module_row::rows::RowItem;
 use names::cases::{case_name, word_names};
 use names::kinds::field_names;
 use records::body::{Body, Placed, Words};
@@ -129,5 +130,20 @@ impl Display for Totals {
             lengths.functions, lengths.entries
         )?;
         writeln!(f, "kept: {kept} records in {used} bytes and {kept} slots")
+    }
+}
+
+/// An item of a row, by its table and its number.
+#[derive(Clone, Copy)]
+pub struct Numbered(pub RowItem);
+
+impl Display for Numbered {
+    fn fmt<W: fmt::Write>(&self, f: &mut fmt::Formatter<W>) -> fmt::Result {
+        match self.0 {
+            RowItem::Type(number) => write!(f, "type:{number}"),
+            RowItem::Override(number) => write!(f, "override:{number}"),
+            RowItem::Constant(number) => write!(f, "constant:{number}"),
+            RowItem::Expression(number) => write!(f, "expression:{number}"),
+        }
     }
 }

@@ -3,6 +3,7 @@ use crate::drafts::AnyDraft;
 use arena::view::View;
 use records::image::Record;
 use rules::faults::{Fault, FaultKind, Rejection, Rule};
+use seal::sealed::Sealed;
 use std::fmt;
 use std::fmt::Display;
 use valid::check::check;
@@ -49,6 +50,18 @@ impl Plain {
         Plain {
             question,
             answer: question.put_to(draft),
+        }
+    }
+
+    /// That of sealing, where it is known.
+    pub fn sealed(sealed: &Result<Sealed<'_>, Rejection>) -> Plain {
+        let answer = match sealed {
+            Ok(_) => Ok(()),
+            Err(rejection) => Err(*rejection),
+        };
+        Plain {
+            question: Question::Seal,
+            answer,
         }
     }
 

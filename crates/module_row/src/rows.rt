@@ -50,6 +50,6 @@ pub fn row(heap: Global, sealed: &Sealed<'_>) -> Result<Vec<RowItem>, AllocError
 {
     let ranks = Ranks::of(heap, sealed)?;
     let mut ranked = ranked(heap, &ranks)?;
-    ranked.sort_unstable_by_key(|ranked| ranked.rank);
+    ranked.sort_by_key(|ranked| ranked.rank)?;
     unranked(heap, ranked.as_slice())
 }

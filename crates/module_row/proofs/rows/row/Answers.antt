@@ -17,10 +17,10 @@ returns c =
     let records = sealed_records c.args.sealed.now in
     let m = (state records).built in
     let xs = c.in_ok-ranked.ranked.items in
-    let ys = c.sort_unstable_by_key.new.self.items in
-    let p = c.sort_unstable_by_key.ensures.permutation in
+    let ys = c.sort_by_key.new.self.items in
+    let p = c.in_ok-sort_by_key.ensures.permutation in
     let same = c.in_ok-ranks.ensures {u = tt} in
     let e = subst (λ n. map shown_ranked xs ≡ map (with_rank n) (row_items n)) same (c.in_ok-ranked.ensures {u = tt}) in
-    let up = IsNonDecreasingBy-from_sort_by_key (λ r. r.rank) ys c.sort_unstable_by_key.ensures.sorted (λ a r q k. search rules) in
+    let up = IsNonDecreasingBy-from_sort_by_key (λ r. r.rank) ys c.in_ok-sort_by_key.ensures.sorted (λ a r q k. search rules) in
     let row = permuted_row records c.requires.stands.accepted c.requires.accepted (map shown_item (map (λ r. r.item) ys)) (items_permuted m xs ys (row_items m) e p) (items_rise m xs ys (row_items m) e p up) in
     IfOk-weaker c.unranked.result _ _ (λ v q. subst (λ l. IsModuleRow m (map shown_item l)) (sym (q ∙ ap (map (λ r. r.item)) c.as_slice.ensures.value)) row) c.unranked.ensures
