@@ -1,9 +1,8 @@
 -- What sealing promises of the module that is ranked.
-use Rattle.std.proofs.Common.{◌≡◌, ℕ, Bool, true, false, cond, List, Some, None, Option, map, refl, sym, ap, ◌∙◌, subst}
-use Rattle.std.specs.List.Sorted.{IsPermutation, IsNonDecreasingBy}
+use Rattle.std.proofs.Common.{◌≡◌, Bool, true, false, cond, List, Some, None, Option, refl, sym}
 use Rattle.rules.specs.declared.faults.Rejection.{Rejection}
 use Rattle.rules.specs.declared.faults.Rejection.TheVariants.{Unfinished}
-use Rattle.rules.specs.Module.{Record, Module}
+use Rattle.rules.specs.Module.{Record}
 use Rattle.draft.specs.State.{start, state}
 use Rattle.draft.specs.Admitted.{Accepted}
 use Rattle.arena.specs.Viewing.{finished}

@@ -1,5 +1,5 @@
 -- Items in the order of their ranks, without them.
-use Rattle.std.proofs.Common.{◌≡◌, ℕ, zero, suc, ◌+◌, ◌<◌, ◌≤◌, List, [], ◌∷◌, map, length, get_or, refl, sym, ap, ◌∙◌, subst, inl, inr, arith}
+use Rattle.std.proofs.Common.{◌≡◌, ℕ, zero, suc, ◌<◌, List, [], ◌∷◌, map, length, get_or, refl, sym, ap, ◌∙◌, subst, inl, inr, arith}
 use Rattle.std.specs.List.{AllByRecursion}
 use Rattle.std.specs.List.Sorted.{IsPermutation, IsNonDecreasingBy}
 use Rattle.std.proofs.lemmas.List.{length-map}
@@ -10,7 +10,6 @@ use Rattle.row.proofs.Permuting.{in_permuted}
 use Rattle.promises.specs.Rows.{RowItem, rank}
 use Rattle.promises.proofs.Among.{in_all}
 use Rattle.module_row.specs.declared.ranked.Ranked.{Ranked}
-use Rattle.module_row.specs.declared.rows.RowItem.{RowItem as Item}
 use Rattle.module_row.specs.Rows.{shown_item}
 use Rattle.module_row.specs.Ranked.{shown_ranked, with_rank}
 

@@ -2,7 +2,6 @@
 use Rattle.std.proofs.Common.{◌≡◌, ℕ, zero, suc, ◌+◌, ◌≤◌, List, [], ◌∷◌, ◌++◌, map, length, length-append, slice_get, flat_map, Some, refl, sym, ap, ◌∙◌, arith, append_assoc, append-nil}
 use Rattle.std.proofs.lemmas.List.{map-append, length-map}
 use Rattle.rules.specs.Module.{Item, Module}
-use Rattle.rules.specs.Items.{at}
 use Rattle.promises.specs.Rows.{RowItem, above, value_ranks, rank, counted, row_items}
 use Rattle.promises.proofs.Among.{at_is}
 use Rattle.module_row.specs.Ranked.{with_rank, with_ranks}

@@ -1,9 +1,10 @@
 //! The ranks of the items of a sealed module.
 ghost use Rattle.std.specs.Prelude.{◌≡◌, ◌+◌, ◌<◌, ◌≤◌, ◌^◌, ◌++◌, IfOk, map, length};
-ghost use Rattle.std.specs.List.{flat_map};
+ghost use Rattle.std.specs.List.{flat_map, AllByRecursion};
+ghost use Rattle.std.specs.Option.{option_to_list};
 ghost use Rattle.rules.specs.Once.{inits};
 ghost use Rattle.rules.specs.Sizes.{sizes};
-ghost use Rattle.rules.specs.Items.{type_of, init_of};
+ghost use Rattle.rules.specs.Items.{type_of, init_of, pending_of, at};
 ghost use Rattle.draft.specs.State.{state};
 ghost use Rattle.items.specs.Item.{shown};
 ghost use Rattle.valid.specs.Module.{shown_module};
@@ -18,7 +19,6 @@ use ir::handle::Table;
 use items::item::Item;
 use items::section::Section;
 use seal::sealed::Sealed;
-use seal::sizes::override_of;
 use std::alloc::{AllocError, Global};
 use valid::constants::own;
 use valid::module::Module;
@@ -32,29 +32,51 @@ pub(crate) struct Ranks<'a> {
     ghost few: { above (flat_map (inits (shown_module «module»)) (shown_module «module»).types) ≤ 2 ^ 32 },
 }
 
-/// For how many global expressions a type waits by its own size.
-fn waits_for(module: Module<'_>, ty: Item<'_>) -> usize
-    ensures above { result ≡ above (inits (shown_module «module».entry) (shown ty.entry)) }
+/// The init of each override, where it has one.
+fn inits(heap: Global, module: Module<'_>) -> Result<Vec<Option<u32>>, AllocError>
+    ensures { IfOk result (λ v. map option_to_list v.items ≡ map init_of (shown_module «module».entry).overrides) }
+{
+    let mut inits = Vec::new(heap);
+    for value in module.items(Section::Numbered(SlotTable::Overrides)) {
+        inits.push(own(value, Table::Expressions))?;
+    }
+    Ok(inits)
+}
+
+/// For how many global expressions a size waits that has an init, or none.
+fn waits(init: Option<u32>) -> usize
+    ensures above { result ≡ above (option_to_list init) }
     ensures few { result ≤ 2 ^ 32 }
 {
-    if let Some(size) = override_of(module, ty)
-        && let Some(init) = own(size, Table::Expressions)
-    {
-        init as usize + 1
-    } else {
-        0
+    match init {
+        Some(init) => init as usize + 1,
+        None => 0,
+    }
+}
+
+/// For how many global expressions a type waits by its own size.
+fn waits_for(inits: &[Option<u32>], ty: Item<'_>) -> usize
+    requires { AllByRecursion (λ o. o < length inits.now) (pending_of (shown ty)) }
+    ensures above { result ≡ above (flat_map option_to_list (flat_map (at inits.now) (pending_of (shown ty.entry)))) }
+    ensures few { result ≤ 2 ^ 32 }
+{
+    match own(ty, Table::Overrides) {
+        Some(size) => waits(inits[size as usize]),
+        None => 0,
     }
 }
 
 /// For how many global expressions each type waits.
 fn rooms(heap: Global, module: Module<'_>) -> Result<Vec<usize>, AllocError>
+    requires { ItemsInside (sizes (shown_module «module»)) (shown_module «module»).types }
     ensures rooms { IfOk result (λ v. v.items ≡ rooms_of (shown_module «module».entry)) }
     ensures few { IfOk result (λ _. above (flat_map (inits (shown_module «module».entry)) (shown_module «module».entry).types) ≤ 2 ^ 32) }
 {
+    let inits = inits(heap, module)?;
     let mut rooms = Vec::new(heap);
     let mut room = 0;
     for ty in module.items(Section::Numbered(SlotTable::Types)) {
-        room = room.max(waits_for(module, ty));
+        room = room.max(waits_for(inits.as_slice(), ty));
         rooms.push(room)?;
     }
     Ok(rooms)

@@ -1,5 +1,5 @@
 -- A permutation of items in the order of their ranks is sorted.
-use Rattle.std.proofs.Common.{◌≡◌, ℕ, zero, suc, ◌<◌, ◌≤◌, List, [], ◌∷◌, length, Some, slice_get, get_or, refl, sym, ap, ◌∙◌, subst, inl, inr, arith}
+use Rattle.std.proofs.Common.{◌≡◌, ℕ, suc, ◌<◌, ◌≤◌, List, [], ◌∷◌, length, Some, get_or, refl, sym, ap, ◌∙◌, inl, inr, arith}
 use Rattle.std.specs.List.{swap, Contains}
 use Rattle.std.specs.List.Sorted.{IsPermutation, IsNonDecreasingBy}
 use Rattle.std.proofs.lemmas.Bool.{cases_eq}
@@ -7,7 +7,7 @@ use Rattle.std.proofs.lemmas.Option.{slice_get_within, get_or_from_slice_get, sl
 use Rattle.std.proofs.lemmas.List.Edits.{Swapped, swapped_from_swap, length-swap}
 use Rattle.std.proofs.lemmas.List.Sorted.{IsPermutation-sym, IsPermutation-keeps, Contains-permutation}
 use Rattle.row.specs.Row.{Has, Once}
-use Rattle.row.proofs.Places.{In, Apart, in_from_has, has_from_in, apart_from_once}
+use Rattle.row.proofs.Places.{In, in_from_has, has_from_in, apart_from_once}
 use Rattle.row.proofs.Sorting.{Rising, Sorted}
 
 -- two places of one element of a list without repetition, where two other places have changed places

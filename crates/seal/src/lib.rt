@@ -9,6 +9,6 @@ mod leaves;
 mod others;
 pub mod seal;
 pub mod sealed;
-pub mod sizes;
+mod sizes;
 #[cfg(test)]
 mod tests;

@@ -36,7 +36,7 @@ fn constant_of<'a>(module: Module<'a>, expression: Item<'_>) -> Option<Item<'a>>
 }
 
 /// The override that a global expression or a type names, if it names one that is inside.
-pub fn override_of<'a>(module: Module<'a>, item: Item<'_>) -> Option<Item<'a>>
+fn override_of<'a>(module: Module<'a>, item: Item<'_>) -> Option<Item<'a>>
     ensures { option_to_list (option_map shown result) ≡ flat_map (at (shown_module «module».entry).overrides) (own table.Overrides (shown item.entry)) }
 {
     let number = own(item, Table::Overrides)?;

@@ -1,12 +1,10 @@
-use Rattle.std.proofs.Common.{rules, ◌≡◌, map, List, sym, ap, ◌∙◌, subst}
+use Rattle.std.proofs.Common.{rules, ◌≡◌, map, sym, ap, ◌∙◌, subst}
 use Rattle.std.proofs.lemmas.Result.{IfOk-weaker}
 use Rattle.std.proofs.lemmas.List.Sorted.{IsNonDecreasingBy-from_sort_by_key}
 use Rattle.draft.specs.State.{state}
-use Rattle.promises.specs.Inside.{ModuleInside}
-use Rattle.promises.specs.Rows.{IsModuleRow, row_items, rank}
+use Rattle.promises.specs.Rows.{IsModuleRow, row_items}
 use Rattle.promises.proofs.Rows.{permuted_row}
 use Rattle.seal.specs.Sealed.{sealed_records}
-use Rattle.valid.specs.Module.{shown_module}
 use Rattle.module_row.specs.Rows.{shown_item}
 use Rattle.module_row.specs.Ranked.{shown_ranked, with_rank}
 use Rattle.module_row.proofs.Sorted.{items_permuted, items_rise}

@@ -1,4 +1,4 @@
-use Rattle.std.proofs.Common.{◌<◌, length, subst, sym, arith}
+use Rattle.std.proofs.Common.{◌<◌, length, subst, sym}
 use Rattle.std.specs.List.{AllByRecursion}
 use Rattle.ir.specs.declared.handle.Table.TheVariants as table
 use Rattle.rules.specs.Sizes.{sizes}

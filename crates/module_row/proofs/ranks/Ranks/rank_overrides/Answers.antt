@@ -1,8 +1,6 @@
-use Rattle.std.proofs.Common.{rules, ◌≡◌, ◌+◌, ◌≤◌, ◌++◌, suc, map, length, drop, sym, refl, ap, inl, ◌∙◌, arith, append-nil, length-drop}
+use Rattle.std.proofs.Common.{◌≡◌, ◌+◌, ◌++◌, suc, map, length, drop, sym, ap, inl, ◌∙◌, arith, append-nil, length-drop}
 use Rattle.std.specs.Iterator.Adapters.{enumerate_source, enumerate_count}
-use Rattle.std.specs.List.{AllByRecursion}
 use Rattle.std.proofs.lemmas.Option.{slice_get_within}
-use Rattle.rules.specs.Module.{Item}
 use Rattle.rules.specs.Sizes.{sizes}
 use Rattle.items.specs.Item.{shown, items_left}
 use Rattle.items.proofs.Left.{left_few}

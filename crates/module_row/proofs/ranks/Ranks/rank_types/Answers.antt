@@ -1,4 +1,4 @@
-use Rattle.std.proofs.Common.{◌≡◌, ◌+◌, ◌++◌, suc, map, length, sym, refl, ap, ◌∙◌, arith, append-nil}
+use Rattle.std.proofs.Common.{◌≡◌, ◌+◌, ◌++◌, suc, map, length, sym, ap, ◌∙◌, arith, append-nil}
 use Rattle.promises.specs.Rows.{RowItem}
 use Rattle.valid.specs.Module.{shown_module}
 use Rattle.module_row.specs.Ranked.{shown_ranked, with_ranks}

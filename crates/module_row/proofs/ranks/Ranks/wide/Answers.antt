@@ -1,4 +1,4 @@
-use Rattle.std.proofs.Common.{◌≡◌, length, ap, ◌∙◌, sym, arith}
+use Rattle.std.proofs.Common.{length, ap, ◌∙◌, arith}
 use Rattle.promises.specs.Rows.{wide}
 use Rattle.valid.specs.Module.{shown_module}
 use Rattle.module_row.proofs.Rooms.{rooms_length}
