@@ -57,7 +57,7 @@ enum dulvanos_refusal {
     DULVANOS_PLACED = 11,         /* global expression first is of a kind that stands in bodies only; second is 0 */
     DULVANOS_SEALED_INSIDE = 12,  /* a handle names no item of its table, or the number of an argument none: first is
                                      that number, second is 0 */
-    DULVANOS_SEALED_EARLIER = 13  /* item first names item second, which is not earlier */
+    DULVANOS_SEALED_EARLIER = 13  /* item first depends on item second, which is not earlier, where the check does not look */
 };
 
 /* What first and second count, with refusals 8 to 13. */
