@@ -100,7 +100,7 @@ pub record Replayed (calls : List Call) (answers : List (Option Outcome)) (bytes
   pub types : OneNumber (length bytes) (length slots) (put_by calls answers)
   -- every check answered the verdict of the module that was kept there
   pub verdicts : EachVerdict (length bytes) (length slots) (made_of calls answers) answers'
-  -- and every seal that of sealing it
+  -- and every seal what sealing answers for it
   pub seals : EachSeal (length bytes) (length slots) (made_of calls answers) answers'
   -- and where one accepted, every handle is inside and there is a row
   pub promises : EachPromise (length bytes) (length slots) (made_of calls answers) answers'

@@ -9,6 +9,7 @@ use Rattle.module_row.specs.declared.ranked.Ranked.{Ranked}
 abbrev pub shown_ranked : Ranked → ℕ × RowItem
 shown_ranked r = (r.rank, shown_item r.item)
 
+-- an item with its rank
 abbrev pub with_rank : Module → RowItem → ℕ × RowItem
 with_rank m x = (rank m x, x)
 

@@ -23,7 +23,7 @@ use std::alloc::{AllocError, Global};
 use valid::constants::own;
 use valid::module::Module;
 
-/// A sealed module, and for how many global expressions each of its types waits.
+/// A sealed module, and for how many global expressions the types up to each wait.
 #[derive(Drop)]
 pub(crate) struct Ranks<'a> {
     module: Module<'a>,
@@ -66,7 +66,7 @@ fn waits_for(inits: &[Option<u32>], ty: Item<'_>) -> usize
     }
 }
 
-/// For how many global expressions each type waits.
+/// For how many global expressions the types up to each wait.
 fn rooms(heap: Global, module: Module<'_>) -> Result<Vec<usize>, AllocError>
     requires { ItemsInside (sizes (shown_module «module»)) (shown_module «module»).types }
     ensures rooms { IfOk result (λ v. v.items ≡ rooms_of (shown_module «module».entry)) }
@@ -87,7 +87,7 @@ impl<'a> Ranks<'a> {
     ghost use Rattle.promises.specs.Rows.RowItem.{type, override, constant, expression};
     ghost use Rattle.module_row.specs.Ranked.{shown_ranked, with_ranks};
 
-    /// Those of a sealed draft.
+    /// The module of a sealed draft, and its rooms.
     pub fn of(heap: Global, sealed: &Sealed<'a>) -> Result<Ranks<'a>, AllocError>
         requires { IsSealedDraft sealed.now }
         ensures { IfOk result (λ r. shown_module r.«module» ≡ (state (sealed_records sealed.now)).built) }
@@ -97,7 +97,7 @@ impl<'a> Ranks<'a> {
         Ok(Ranks { module, rooms })
     }
 
-    /// How far two expressions stand apart.
+    /// How far the ranks of an expression and of the next one are apart.
     fn wide(&self) -> u128
         ensures wide { result ≡ wide (shown_module self.now.«module») }
         ensures below { result < 2 ^ 64 + 4 }
@@ -154,7 +154,7 @@ impl<'a> Ranks<'a> {
         self.behind_type(value).max(self.behind_init(value))
     }
 
-    /// The types.
+    /// Appends the types with their ranks.
     pub fn rank_types(&self, ranked: &mut Vec<Ranked>) -> Result<(), AllocError>
         ensures { IfOk result (λ _. map shown_ranked ranked.new.items ≡ map shown_ranked ranked.old.items ++ with_ranks (shown_module self.now.«module») type (length (shown_module self.now.«module»).types)) }
     {
@@ -167,7 +167,7 @@ impl<'a> Ranks<'a> {
         Ok(())
     }
 
-    /// The overrides.
+    /// Appends the overrides with their ranks.
     pub fn rank_overrides(&self, ranked: &mut Vec<Ranked>) -> Result<(), AllocError>
         requires { ItemsInside (sizes (shown_module self.now.«module»)) (shown_module self.now.«module»).overrides }
         ensures { IfOk result (λ _. map shown_ranked ranked.new.items ≡ map shown_ranked ranked.old.items ++ with_ranks (shown_module self.now.«module») override (length (shown_module self.now.«module»).overrides)) }
@@ -185,7 +185,7 @@ impl<'a> Ranks<'a> {
         Ok(())
     }
 
-    /// The constants.
+    /// Appends the constants with their ranks.
     pub fn rank_constants(&self, ranked: &mut Vec<Ranked>) -> Result<(), AllocError>
         requires { ItemsInside (sizes (shown_module self.now.«module»)) (shown_module self.now.«module»).constants }
         ensures { IfOk result (λ _. map shown_ranked ranked.new.items ≡ map shown_ranked ranked.old.items ++ with_ranks (shown_module self.now.«module») constant (length (shown_module self.now.«module»).constants)) }
@@ -203,7 +203,7 @@ impl<'a> Ranks<'a> {
         Ok(())
     }
 
-    /// The global expressions.
+    /// Appends the global expressions with their ranks.
     pub fn rank_expressions(&self, ranked: &mut Vec<Ranked>) -> Result<(), AllocError>
         ensures { IfOk result (λ _. map shown_ranked ranked.new.items ≡ map shown_ranked ranked.old.items ++ with_ranks (shown_module self.now.«module») expression (length (shown_module self.now.«module»).expressions)) }
     {

@@ -22,6 +22,7 @@ IsInside s h = index_of h < size_in s (table_of h)
 abbrev pub ItemInside : Sizes → Item → Type 0
 ItemInside s i = AllByRecursion (IsInside s) (handles i)
 
+-- so it is with each of these
 abbrev pub ItemsInside : Sizes → List Item → Type 0
 ItemsInside s items = AllByRecursion (ItemInside s) items
 
@@ -46,6 +47,7 @@ pub record BodyInside (s : Sizes) (b : Body) : Type 0 where
   pub emitted : AllByRecursion (EmitInside (length b.expressions)) b.statements
   pub given : AllByRecursion (ArgumentInside (length b.arguments)) b.expressions
 
+-- a module: every handle of each of its items is inside, and each body is
 pub record ModuleInside (m : Module) : Type 0 where
   pub types : ItemsInside (sizes m) m.types
   pub overrides : ItemsInside (sizes m) m.overrides

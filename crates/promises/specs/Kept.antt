@@ -1,4 +1,5 @@
--- Every handle of every kept record of a sealed draft is inside, in the right body.
+-- Of a sealed draft: every handle of a kept record is inside, in the right body, unless a later record replaced it; and so
+-- are the numbers that Emit and FunctionArgument give.
 use Rattle.std.specs.Prelude.{◌≡◌, ℕ, ◌<◌, ◌≤◌, ◌⊎◌, true, ◌||◌, List, ◌++◌, length, drop, Some, None, Option}
 use Rattle.std.specs.List.{AllByRecursion, slice_get}
 use Rattle.records.specs.Handles.{handles_of}
@@ -13,7 +14,7 @@ use Rattle.sealing.specs.Seal.{FunctionArgument, seal_of}
 use Rattle.row.specs.Row.{Has}
 use Rattle.promises.specs.Inside.{IsInside}
 
--- a place is not behind the item, which there is
+-- the item is there, and the place is not behind it
 abbrev pub UpTo : Option Item → ℕ → Type 0
 UpTo None p = ⊥
 UpTo (Some i) p = p ≤ i.place

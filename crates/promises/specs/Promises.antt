@@ -10,6 +10,7 @@ use Rattle.promises.specs.Inside.{ModuleInside}
 use Rattle.promises.specs.Kept.{RecordInside, NumbersInside}
 use Rattle.promises.specs.Rows.{RowItem, IsModuleRow}
 
+-- what holds of them
 pub record Promises (records : List Record) : Type 0 where
   -- every handle of the module's items is inside, every expression that an Emit covers, and every argument that is given
   pub inside : ModuleInside (state records).built
@@ -22,5 +23,6 @@ pub record Promises (records : List Record) : Type 0 where
   pub row : List RowItem
   pub is_row : IsModuleRow (state records).built row
 
+-- so it is with the records of every draft that sealing accepts
 abbrev pub SealedPromises : Type 0
 SealedPromises = (records : List Record) → Accepted start records → seal_of (state records) ≡ None → Promises records

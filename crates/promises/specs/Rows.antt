@@ -27,7 +27,7 @@ IsItemOf m (RowItem.override o) = o < length m.overrides
 IsItemOf m (RowItem.constant c) = c < length m.constants
 IsItemOf m (RowItem.expression e) = e < length m.expressions
 
--- and it is this one
+-- the item with that number, if there is one
 abbrev pub item_at : Module → RowItem → Option Item
 item_at m (RowItem.type t) = slice_get m.types t
 item_at m (RowItem.override o) = slice_get m.overrides o
@@ -45,6 +45,7 @@ handle_of (RowItem.expression e) = named table.Expressions e
 abbrev pub PointsTo : Module → RowItem → RowItem → Type 0
 PointsTo m x y = (i : Item) × (item_at m x ≡ Some i) × Has (handles i) (handle_of y)
 
+-- a row of the module: a list of all items of the four tables, each once and after all that it points to
 abbrev pub IsModuleRow : Module → List RowItem → Type 0
 IsModuleRow m row = IsRow (IsItemOf m) (PointsTo m) row
 
@@ -57,21 +58,24 @@ above (n ∷ ns) = max (suc n) (above ns)
 abbrev pub room : Module → ℕ → ℕ
 room m t = above (flat_map (inits m) (take (suc t) m.types))
 
--- between two expressions there is room for all types, and for an override and a constant behind each
+-- how far the ranks of an expression and of the next one are apart: for each type there is its own rank and the one
+-- behind it, for overrides and constants
 unfoldable pub wide : Module → ℕ
 wide m = 2 * length m.types + 4
 
--- a type stands behind the expressions that it waits for, and expressions in the order of their numbers
+-- a type stands behind the expressions that it waits for, and behind the earlier types
 unfoldable pub type_rank : Module → ℕ → ℕ
 type_rank m t = room m t * wide m + (2 * t + 1)
 
+-- expressions stand in the order of their numbers, each behind all types that wait for earlier ones only
 unfoldable pub expression_rank : Module → ℕ → ℕ
 expression_rank m e = e * wide m + (2 * length m.types + 3)
 
--- an override or a constant stands right behind its type and its init
+-- the ranks of the type and of the init of an override or a constant
 abbrev pub value_ranks : Module → Item → List ℕ
 value_ranks m v = map (type_rank m) (type_of v) ++ map (expression_rank m) (init_of v)
 
+-- the rank of an item: that of an override or a constant is just above those of its type and its init
 abbrev pub rank : Module → RowItem → ℕ
 rank m (RowItem.type t) = type_rank m t
 rank m (RowItem.override o) = above (flat_map (value_ranks m) (at m.overrides o))

@@ -27,6 +27,7 @@ absent = 255 ∷ 255 ∷ 255 ∷ 255 ∷ []
 abbrev pub of_kind : ℕ → List (List ℕ) → Record
 of_kind k parts = k ∷ flat_map (λ part. part) parts
 
+-- records of these kinds, with marks 0 but for a Scalar's name
 abbrev pub scalar : ℕ → Record
 scalar name = of_kind 16 (u32 name ∷ u32 0 ∷ [])
 

@@ -20,11 +20,12 @@ pub record IsRow {X : Type 0} (Inside : X → Type 0) (Points : X → X → Type
   -- what an item points to stands before the item
   pub after : (j : ℕ) (x y : X) → slice_get row j ≡ Some x → Points x y → (k : ℕ) × (k < j) × (slice_get row k ≡ Some y)
 
--- items in the order of their ranks, those of one rank as they come
+-- x before the first item whose rank is not smaller
 abbrev pub insert : {X : Type 0} → (X → ℕ) → X → List X → List X
 insert rank x [] = x ∷ []
 insert rank x (y ∷ ys) = cond (nat_le (rank x) (rank y)) (x ∷ y ∷ ys) (y ∷ insert rank x ys)
 
+-- items in the order of their ranks, those of one rank as they come
 abbrev pub sort : {X : Type 0} → (X → ℕ) → List X → List X
 sort rank [] = []
 sort rank (x ∷ xs) = insert rank x (sort rank xs)

@@ -13,6 +13,7 @@ outside f = record f { rule = rule.SealedInside }
 abbrev pub later : Fault → Fault
 later f = record f { rule = rule.SealedEarlier }
 
+-- the rule that is broken, what the numbers count, the numbers and the place
 abbrev pub breached : Breach → Fault
 breached (Misplaced e) = record { rule = rule.Placed; kind = kind.Expression; first = e.number; second = 0; place = e.place }
 breached (Outside e) = outside (bad_handle e)

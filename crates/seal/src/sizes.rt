@@ -68,7 +68,7 @@ fn seal_types_named(
     seal_type_named(override_of(module, expression), ty, place)
 }
 
-/// Every global expression up to the init that no type has met.
+/// The types that each global expression up to the init names, of those that no type has met, are earlier.
 fn seal_up_to(
     module: Module<'_>,
     rest: &mut Unmet<'_>,
@@ -89,7 +89,7 @@ fn seal_up_to(
     Ok(())
 }
 
-/// A type: if its size is an override with an init, what the global expressions up to that name is earlier.
+/// A type: if its size is an override with an init, the types that the global expressions up to it name are earlier.
 fn seal_size(
     module: Module<'_>,
     rest: &mut Unmet<'_>,
@@ -109,7 +109,7 @@ fn seal_size(
     Ok(())
 }
 
-/// The types.
+/// The sizes of all types.
 pub(crate) fn seal_sizes(module: Module<'_>) -> Result<(), Breach>
     requires { InitsInside (shown_module «module») }
     ensures { failure breached result ≡ first (sizes_once (shown_module «module».entry) 0 0 (shown_module «module».entry).types) }

@@ -11,6 +11,7 @@ use Rattle.sealing.specs.Seal.{global_tests, waited_tests, inner_then_other_test
 abbrev pub up_to_once : Module → ℕ → ℕ → ℕ → ℕ → List Test
 up_to_once m met t place e = flat_map (waited_tests m t place) (unmet m met e)
 
+-- of a type, by the inits of its size
 abbrev pub pending_once : Module → ℕ → ℕ → Item → List Test
 pending_once m met t i = flat_map (up_to_once m met t i.place) (inits m i)
 

@@ -83,6 +83,7 @@ pending_tests m t i = flat_map (up_to_tests m t i.place) (inits m i)
 abbrev pub argument_number : Item → ℕ
 argument_number i = number (drop 1 i.bytes)
 
+-- it is inside
 abbrev pub argument_tests : ℕ → Item → List Test
 argument_tests count i = cond (is FunctionArgument i) (argument count i.place (argument_number i) ∷ []) []
 

@@ -6,4 +6,5 @@ pub record Steps (W V : Type 0) : Type 0 where
   pub start : List ℕ → W
   -- with the value of one operand
   pub take : W → V → W
+  -- the value, when those of all operands are taken
   pub finish : W → V

@@ -5,7 +5,7 @@ ghost use Rattle.walk.specs.Steps.{Steps};
 use records::image::Record;
 
 /// Makes the value of an item from its record and from the values of its operands.
-// A running value has no `Drop`: what is started can only be finished.
+// No bound `Drop` on `Running`: code over any reading can only finish what it started.
 pub trait Reading {
     type Running;
 
