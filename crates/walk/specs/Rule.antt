@@ -22,3 +22,8 @@ module _ {W V : Type 0} (s : Steps W V) (values : List V) where
 pub record Keeps {W V : Type 0} (s : Steps W V) (nodes : List Node) (values : List V) : Type 0 where
   pub one_each : length values ≡ length nodes
   pub each : (i : ℕ) (n : Node) (v : V) → slice_get nodes i ≡ Some n → slice_get values i ≡ Some v → Makes s values n v
+
+-- a list keeps the rule, and no other list does
+pub record TheValues {W V : Type 0} (s : Steps W V) (nodes : List Node) (values : List V) : Type 0 where
+  pub keeps : Keeps s nodes values
+  pub no_others : (others : List V) → Keeps s nodes others → others ≡ values

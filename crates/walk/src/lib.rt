@@ -1,4 +1,5 @@
-//! Readings: how the values of items are made, and the rule that says which values they are.
+//! Readings, and the walk that makes the values of items by one: how they are made, the rule that says which values
+//! they are, and that no others keep it.
 #![tactic(auto)]
 
 pub mod depth;
@@ -6,3 +7,4 @@ pub mod reading;
 pub mod steady;
 #[cfg(test)]
 mod tests;
+pub mod walk;
