@@ -1,2 +1,3 @@
 pub mod Breach
 pub mod Sealed
+pub mod Walking

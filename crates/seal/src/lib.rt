@@ -12,3 +12,4 @@ pub mod sealed;
 mod sizes;
 #[cfg(test)]
 mod tests;
+pub mod walking;
