@@ -62,3 +62,15 @@ module _ (m : List Record) (a : Accepted start m) (done : finished (state m) ≡
 
   pub tests_same : first (seal_once_tests (module_of m)) ≡ first (seal_tests (state m).built)
   tests_same = looked_at_once (module_of m) ∙ ap (λ n. first (seal_tests n)) module_same
+
+-- what is sealed is finished
+done_when : (b : Bool) (o : Option Rejection) → cond b o (Some Unfinished) ≡ None → b ≡ true
+done_when true o e = refl
+done_when false o e = absurd cc
+
+module _ (m : List Record) (a : Accepted start m) (e : seal_of (state m) ≡ None) where
+  pub done : finished (state m) ≡ true
+  done = done_when (finished (state m)) _ e
+
+  pub built_is : module_of m ≡ (state m).built
+  built_is = module_same m a done

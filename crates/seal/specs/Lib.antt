@@ -1,3 +1,2 @@
 pub mod Breach
 pub mod Sealed
-pub mod Walking

@@ -12,4 +12,3 @@ pub mod sealed;
 mod sizes;
 #[cfg(test)]
 mod tests;
-pub mod walking;

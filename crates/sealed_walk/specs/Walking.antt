@@ -10,8 +10,8 @@ use Rattle.walk.specs.declared.walk.WalkRefusal.{WalkRefusal}
 use Rattle.walk.specs.declared.walk.WalkRefusal.TheVariants.{NoSuchBody}
 use Rattle.walk.specs.Steps.{Steps}
 use Rattle.walk.specs.Walked.{Walked}
-use Rattle.seal.specs.declared.walking.DraftTable.{DraftTable}
-use Rattle.seal.specs.declared.walking.DraftTable.TheVariants as table
+use Rattle.sealed_walk.specs.declared.walking.DraftTable.{DraftTable}
+use Rattle.sealed_walk.specs.declared.walking.DraftTable.TheVariants as table
 
 -- the nodes of a table of a module; there are none for a function or an entry point that it does not have
 abbrev pub nodes_of : DraftTable → Module → Option (List Node)

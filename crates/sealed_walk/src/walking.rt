@@ -10,14 +10,14 @@ ghost use Rattle.items.specs.Whole.{items_of, body_of};
 ghost use Rattle.tables.specs.Tables.{inner_nodes};
 ghost use Rattle.walk.specs.Rule.{OperandsEarlier};
 ghost use Rattle.seal.specs.Sealed.{IsSealedDraft, sealed_records};
-ghost use Rattle.seal.specs.Walking.{nodes_of, WalkedAs};
+ghost use Rattle.sealed_walk.specs.Walking.{nodes_of, WalkedAs};
 
-use crate::sealed::Sealed;
 use arena::view::View;
 use draft::state::SlotTable;
 use items::body::Body;
 use items::items::Items;
 use items::section::Section;
+use seal::sealed::Sealed;
 use tables::tables::{
     BodyExpressionTable, FilterTable, FunctionTable, GlobalExpressionTable, TypeTable,
 };
@@ -51,7 +51,7 @@ fn walk_body<R: Reading>(
     values: &mut [R::Value],
 ) -> Result<Tally, WalkRefusal>
     requires { IfSome body (λ b. OperandsEarlier (inner_nodes (shown_body b))) }
-    ensures { WalkedAs (R.steps reading.now) (option_map (λ b. inner_nodes (shown_body b)) body) values.old values.new result }
+    ensures { WalkedAs (R.steps reading.now) (option_map (λ b. inner_nodes (shown_body b)) body.entry) values.old values.new result }
 {
     let Some(body) = body else {
         return Err(WalkRefusal::NoSuchBody);
@@ -68,7 +68,7 @@ pub fn walk_sealed<R: Reading>(
     values: &mut [R::Value],
 ) -> Result<Tally, WalkRefusal>
     requires { IsSealedDraft sealed }
-    ensures { WalkedAs (R.steps reading.now) (nodes_of table (state (sealed_records sealed)).built) values.old values.new result }
+    ensures { WalkedAs (R.steps reading.now) (nodes_of table (state (sealed_records sealed.entry)).built) values.old values.new result }
 {
     let view = sealed.view();
     match table {

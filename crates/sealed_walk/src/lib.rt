@@ -1,0 +1,4 @@
+//! Walking the tables of a sealed draft.
+#![tactic(auto)]
+
+pub mod walking;
