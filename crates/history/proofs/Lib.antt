@@ -1,6 +1,4 @@
-pub mod Keeping
-pub mod Growing
-pub mod Knowing
-pub mod Staying
+pub mod Walking
 pub mod Replaying
 pub mod Promising
+pub mod Leaving

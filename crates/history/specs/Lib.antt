@@ -1,3 +1,2 @@
-pub mod Homes
-pub mod Runs
+pub mod Walks
 pub mod Calls

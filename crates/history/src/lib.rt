@@ -3,3 +3,4 @@
 
 pub mod calls;
 pub mod replay;
+mod walks;

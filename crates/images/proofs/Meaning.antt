@@ -8,7 +8,7 @@ use Rattle.draft.specs.declared.refusal.Refusal.{Refusal}
 use Rattle.draft.specs.State.{state}
 use Rattle.arena.specs.Answer.{Answer}
 use Rattle.arena.specs.Put.{put_def}
-use Rattle.history.specs.Runs.{put_kept, run}
+use Rattle.runs.specs.Runs.{put_kept, run}
 use Rattle.images.specs.declared.question.Question.{Question}
 use Rattle.images.specs.declared.refusal.ImageRefusal.TheVariants.{Module}
 use Rattle.images.specs.declared.verdict.Verdict.{Verdict}

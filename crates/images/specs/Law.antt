@@ -6,7 +6,7 @@ use Rattle.rules.specs.Module.{Record}
 use Rattle.draft.specs.declared.refusal.Refusal.{Refusal}
 use Rattle.draft.specs.State.{state}
 use Rattle.arena.specs.Put.{put_def}
-use Rattle.history.specs.Runs.{put_kept, run}
+use Rattle.runs.specs.Runs.{put_kept, run}
 use Rattle.images.specs.declared.question.Question.{Question}
 use Rattle.images.specs.declared.refusal.ImageRefusal.{ImageRefusal}
 use Rattle.images.specs.declared.refusal.ImageRefusal.TheVariants.{Put, Module}

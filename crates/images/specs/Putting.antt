@@ -4,7 +4,7 @@ use Rattle.rules.specs.Module.{Record}
 use Rattle.draft.specs.declared.refusal.Refusal.{Refusal}
 use Rattle.arena.specs.Answer.{Answer}
 use Rattle.arena.specs.Put.{put_def}
-use Rattle.history.specs.Runs.{put_kept}
+use Rattle.runs.specs.Runs.{put_kept}
 
 -- a refusal ends it, with the records kept then; else it goes on
 abbrev pub unless_refused : Result Answer Refusal → List Record → Result Unit Refusal × List Record → Result Unit Refusal × List Record

@@ -12,7 +12,7 @@ use Rattle.draft.specs.Admitted.{admitted}
 use Rattle.arena.specs.declared.view.Home.{Home}
 use Rattle.arena.specs.Put.{put_def}
 use Rattle.arena.specs.Viewing.{items_in}
-use Rattle.history.specs.Homes.{home_of}
+use Rattle.runs.specs.Homes.{home_of}
 
 module _ (room places : ℕ) where
   -- the kept records after one put, and after many

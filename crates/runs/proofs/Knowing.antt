@@ -4,7 +4,7 @@ use Rattle.std.specs.List.{slice_get}
 use Rattle.std.proofs.lemmas.Bool.{cond-true, cond-false, cases_Bool}
 use Rattle.rules.specs.Module.{Item}
 use Rattle.arena.specs.Put.{equal_items, known_from}
-use Rattle.history.proofs.Keeping.{Keeps}
+use Rattle.runs.proofs.Keeping.{Keeps}
 
 -- what is known stays so
 pub known_stays : (k : ℕ) (xs ys : List Item) (i : Item) (n : ℕ) → Keeps xs ys → known_from k xs i ≡ Some n → known_from k ys i ≡ Some n

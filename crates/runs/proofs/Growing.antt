@@ -18,8 +18,8 @@ use Rattle.arena.specs.declared.view.Home.{Home}
 use Rattle.arena.specs.Answer.{Answer, answered}
 use Rattle.arena.specs.Viewing.{items_in, slot_table, among, enters}
 use Rattle.arena.proofs.Homes.{grown, local, nth_last, FlagOf, flag_in, outside_table, home_step}
-use Rattle.history.specs.Homes.{home_in, home_of}
-use Rattle.history.proofs.Keeping.{Keeps, keeps_grown}
+use Rattle.runs.specs.Homes.{home_in, home_of}
+use Rattle.runs.proofs.Keeping.{Keeps, keeps_grown}
 
 pub step_keeps : (s : State) (r : Record) (k : Kind) → Admits s r k → (h : Home) (t : Table) → Keeps (items_in h t s) (items_in h t (stepped k r s))
 step_keeps s r k a h t =

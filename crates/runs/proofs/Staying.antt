@@ -28,11 +28,11 @@ use Rattle.arena.specs.Viewing.{items_in}
 use Rattle.arena.proofs.Tables.{is_or_other}
 use Rattle.arena.proofs.Putting.{put_refused, put_type, put_new, put_other}
 use Rattle.arena.proofs.Blocks.{equal_parts, equal_from}
-use Rattle.history.specs.Homes.{home_in, home_of}
-use Rattle.history.specs.Runs.{put_kept, run, Numbered, Names, NumbersStay}
-use Rattle.history.proofs.Keeping.{Keeps, keeps_same}
-use Rattle.history.proofs.Growing.{step_keeps, answer_table, home_has}
-use Rattle.history.proofs.Knowing.{known_stays, known_next, known_names, known_like}
+use Rattle.runs.specs.Homes.{home_in, home_of}
+use Rattle.runs.specs.Runs.{put_kept, run, Numbered, Names, NumbersStay}
+use Rattle.runs.proofs.Keeping.{Keeps, keeps_same}
+use Rattle.runs.proofs.Growing.{step_keeps, answer_table, home_has}
+use Rattle.runs.proofs.Knowing.{known_stays, known_next, known_names, known_like}
 
 -- the number of a handle is the one that was answered
 answered_index : (t : SlotTable) (n : ℕ) (h : Handle) → answered t n ≡ Some h → n ≡ index_of h
