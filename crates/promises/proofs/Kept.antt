@@ -28,7 +28,7 @@ use Rattle.items.specs.Sections.{selects}
 use Rattle.items.specs.Between.{item_at, items_between}
 use Rattle.items.specs.Whole.{items_of, ends, ending_from, body_of, module_of}
 use Rattle.items.proofs.Between.{front}
-use Rattle.items.proofs.Places.{wanted, next_at}
+use Rattle.items.proofs.Places.{wanted, wanted_is, next_at}
 use Rattle.items.proofs.Whole.{module_is}
 use Rattle.row.specs.Row.{Has}
 use Rattle.row.proofs.Places.{In, in_from_has, has_from_in, in_left, in_either}
@@ -37,7 +37,7 @@ use Rattle.sealing.proofs.Kinded.{last_has}
 use Rattle.promises.specs.Inside.{IsInside, ItemInside, ItemsInside, BodyInside, ModuleInside}
 use Rattle.promises.specs.Kept.{StandsIn, RecordInside, SealedKept}
 use Rattle.promises.proofs.Handles.{handles_are}
-use Rattle.promises.proofs.Made.{PiecesAre, Made, reached, made, AType, AnExpression, wanted_is, ModuleMade, module_made}
+use Rattle.promises.proofs.Made.{PiecesAre, Made, reached, made, AType, AnExpression, ModuleMade, module_made}
 use Rattle.promises.proofs.Passed.{sealed_draft}
 use Rattle.promises.proofs.Inside.{module_inside}
 use Rattle.promises.proofs.Among.{in_all, from_flat}

@@ -27,14 +27,13 @@ use Rattle.items.specs.Sections.{of_kinds, selects}
 use Rattle.items.specs.Between.{item_at, items_between}
 use Rattle.items.specs.Whole.{ends, ending_from, body_of, module_of}
 use Rattle.items.proofs.Between.{between_append, split}
-use Rattle.items.proofs.Places.{wanted, next_at}
+use Rattle.items.proofs.Places.{wanted, wanted_is, next_at}
 use Rattle.items.proofs.Whole.{module_is}
 use Rattle.sealing.specs.Seal.{FunctionArgument, global_tests, seal_of}
 use Rattle.row.specs.Row.{Has}
 use Rattle.row.proofs.Places.{In, in_from_has, in_right}
 use Rattle.promises.specs.Inside.{EmitInside, ArgumentInside, BodyInside, ModuleInside}
 use Rattle.promises.specs.Kept.{StandsIn, NumbersInside, SealedNumbers}
-use Rattle.promises.proofs.Made.{wanted_is}
 use Rattle.promises.proofs.Tested.{tested_all}
 use Rattle.promises.proofs.Passed.{ModulePassed, SealedDraft, sealed_draft}
 use Rattle.promises.proofs.Inside.{module_inside}

@@ -29,16 +29,15 @@ use Rattle.draft.specs.Manner.{manner_of}
 use Rattle.draft.specs.State.{State, start, step, stepped, state, item_of, waiting_after, meets, same_pieces}
 use Rattle.draft.specs.Admitted.{Accepted}
 use Rattle.draft.proofs.Stepping.{Admits, admitted_kind, step_is, throughout}
-use Rattle.arena.specs.Memory.{table_judged}
-use Rattle.arena.specs.Viewing.{same_table}
 use Rattle.laws.proofs.KindBytes.{starts_so}
 use Rattle.items.specs.declared.section.Section.{Section}
 use Rattle.items.specs.declared.section.Section.TheVariants.{Numbered, Kinds}
-use Rattle.items.specs.Sections.{of_kinds, selects}
+use Rattle.items.specs.Sections.{selects}
 use Rattle.items.specs.Between.{gained, items_between}
 use Rattle.items.specs.Whole.{items_of, ending_from, body_of, module_of}
 use Rattle.items.proofs.Between.{none_between, front}
-use Rattle.items.proofs.Places.{wanted}
+use Rattle.items.proofs.Places.{wanted, wanted_is}
+use Rattle.tables.proofs.Weighing.{accepted_back}
 use Rattle.sealing.proofs.FieldTables.{Allowed, fields_allowed, record_allowed}
 use Rattle.sealing.proofs.Kinded.{one_more_if, last_has}
 
@@ -103,14 +102,6 @@ taken_so n (Some p) ws h j x = same_sort p n.takes ws (sym (ap (λ o. option_eq 
 
 pub made : (s : State) (r : Record) (k : Kind) → Admits s r k → Reached s → (manner_of k).joins ≡ None → Made k (item_of s r)
 made s r k a x j = record { kind_is = a.kind_is; taken = taken_so (manner_of k) s.waits s.waiting a.allowed j x }
-
-pub wanted_is : (sec : Section) (s : State) (r : Record) (k : Kind) → judged r ≡ Ok k → selects sec s r ≡ wanted sec s.opened k
-wanted_is (Numbered t) s r k e = ap (λ j. same_table t (table_judged s j)) e
-wanted_is (Kinds low high) s r k e = ap (of_kinds low high) (starts_so k r e).1
-
-accepted_back : (s : State) (m n : List Record) → Accepted s (m ++ n) → Accepted (fold step s m) n
-accepted_back s [] n a = a
-accepted_back s (r ∷ m) n a = accepted_back (step s r) m n a.1
 
 accepted_between : (m : List Record) (from to : ℕ) → from ≤ to → Accepted start m → Accepted (state (take from m)) (drop from (take to m))
 unfolding state

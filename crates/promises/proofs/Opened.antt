@@ -21,7 +21,6 @@ use Rattle.draft.specs.Manner.{manner_of}
 use Rattle.draft.specs.State.{State, start, step, stepped, state, item_of, waiting_after, on_side, open_after, body_after}
 use Rattle.draft.specs.Admitted.{Accepted}
 use Rattle.draft.proofs.Stepping.{Admits, step_is, state_push, throughout}
-use Rattle.laws.proofs.KindBytes.{starts_so}
 use Rattle.items.specs.declared.section.Section.{Section}
 use Rattle.items.specs.declared.section.Section.TheVariants.{Numbered}
 use Rattle.items.specs.Sections.{selects}
@@ -30,13 +29,11 @@ use Rattle.items.specs.Whole.{ends, ending_from}
 use Rattle.items.proofs.Between.{none_between, item_is, split, front}
 use Rattle.items.proofs.Places.{next_at, between_at}
 use Rattle.items.proofs.ByKind.{finishes}
+use Rattle.items.proofs.Whole.{ends_is}
 use Rattle.sealing.proofs.Kinded.{one_more_if}
 use Rattle.promises.proofs.Made.{Made}
 
 -- the first that ends
-
-ends_is : (r : Record) (k : Kind) → judged r ≡ Ok k → ends r ≡ finishes k
-ends_is r k e = ap ends (starts_so k r e).1
 
 only_end : (k : Kind) → finishes k ≡ true → k ≡ kind.EndFunction
 only_end kind.EndFunction e = refl

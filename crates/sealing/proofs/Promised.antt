@@ -1,9 +1,8 @@
 -- What it says of a module that every test of sealing passes.
-use Rattle.std.proofs.Common.{◌≡◌, ℕ, zero, suc, ◌<◌, Bool, true, false, cond, List, [], ◌∷◌, ◌++◌, map, filter, length, slice_get, flat_map, Some, None, sym, refl, ap, ◌∙◌, subst, ltb-true}
+use Rattle.std.proofs.Common.{◌≡◌, ℕ, suc, ◌<◌, Bool, true, false, cond, List, [], ◌∷◌, ◌++◌, map, filter, length, slice_get, flat_map, Some, None, sym, refl, ap, ◌∙◌, subst, ltb-true}
 use Rattle.std.specs.List.{AllByRecursion}
 use Rattle.std.proofs.ByRecursion.{All-append, All-weaker}
 use Rattle.std.proofs.lemmas.Grind.{flat_map-append}
-use Rattle.std.proofs.lemmas.Option.{same_Some}
 use Rattle.ir.specs.declared.handle.Table.TheVariants as table
 use Rattle.records.specs.Handles.{handles_of}
 use Rattle.rules.specs.declared.faults.Rule.TheVariants as rule
@@ -18,6 +17,7 @@ use Rattle.rules.proofs.Once.{all_flat}
 use Rattle.rules.specs.Verdict.{AllHold, NamesEarlier, CallsEarlier, Ordered}
 use Rattle.rules.proofs.Passing.{hold_from_none, none_from_hold, hold_left, hold_right, hold_each, hold_numbered, below_from_hold}
 use Rattle.rules.proofs.Verdict.{verdict}
+use Rattle.items.proofs.Numbered.{mapped_at}
 use Rattle.node.specs.Nodes.{Node}
 use Rattle.tables.specs.Tables.{node_of, records_of, callees, function_node}
 use Rattle.tables.proofs.Numbers.{numbers_append}
@@ -28,15 +28,9 @@ use Rattle.sealing.specs.Promised.{TablesEarlier, ExactlyWhenAllHold, InitsInsid
 pub exactly : (m : Module) → ExactlyWhenAllHold m
 exactly m = record { holds = hold_from_none (all_tests m); passes = none_from_hold (all_tests m) }
 
--- the element at a place of a map is made of the one at that place
-made_of : {X Y : Type 0} (f : X → Y) (xs : List X) (k : ℕ) (y : Y) → slice_get (map f xs) k ≡ Some y → (x : X) × (slice_get xs k ≡ Some x) × (f x ≡ y)
-made_of f [] k y e = absurd cc
-made_of f (x ∷ xs) zero y e = (x, refl, same_Some (f x) y e)
-made_of f (x ∷ xs) (suc k) y e = made_of f xs k y e
-
 -- what is shown as nodes, each with earlier operands only
 nodes_earlier : {X : Type 0} (node : X → Node) (xs : List X) → ((n : ℕ) (x : X) → slice_get xs n ≡ Some x → AllByRecursion (λ k. k < n) (node x).operands) → OperandsEarlier (map node xs)
-nodes_earlier node xs each n y s = let g = made_of node xs n y s in subst (λ z. AllByRecursion (λ k. k < n) z.operands) g.2 (each n g.0 g.1)
+nodes_earlier node xs each n y s = let g = mapped_at node xs n y s in subst (λ z. AllByRecursion (λ k. k < n) z.operands) g.2 (each n g.0 g.1)
 
 -- the functions of the results of calls, where each names earlier functions
 module _ (f : ℕ) where
