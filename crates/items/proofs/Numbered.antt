@@ -16,11 +16,11 @@ use Rattle.items.specs.Whole.{items_of}
 use Rattle.items.proofs.Whole.{table_is}
 use Rattle.items.proofs.Places.{between_at}
 
--- the item at a place of a list of places
-placed : (items : List Item) (n p : ℕ) → slice_get (map (λ i. i.place) items) n ≡ Some p → (i : Item) × (slice_get items n ≡ Some i) × (i.place ≡ p)
-placed [] n p e = absurd cc
-placed (i ∷ items) zero p e = (i, refl, same_Some i.place p e)
-placed (i ∷ items) (suc n) p e = placed items n p e
+-- the element at a place of a map is made of the one at that place
+pub mapped_at : {X Y : Type 0} (f : X → Y) (xs : List X) (n : ℕ) (y : Y) → slice_get (map f xs) n ≡ Some y → (x : X) × (slice_get xs n ≡ Some x) × (f x ≡ y)
+mapped_at f [] n y e = absurd cc
+mapped_at f (x ∷ xs) zero y e = (x, refl, same_Some (f x) y e)
+mapped_at f (x ∷ xs) (suc n) y e = mapped_at f xs n y e
 
 pub none_placed : (items : List Item) (n : ℕ) → slice_get (map (λ i. i.place) items) n ≡ None → slice_get items n ≡ None
 none_placed [] n e = refl
@@ -48,7 +48,7 @@ made handles.EntryPoints m a = subst (Made m) (table_is table.EntryPoints refl m
 -- the item that is found at a place that is found
 pub found : (t : Table) (m : List Record) → Accepted start m → (n p : ℕ) → slice_get (map (λ i. i.place) (module_items t (state m))) n ≡ Some p → (bytes : Record) × (slice_get m p ≡ Some bytes) × (slice_get (module_items t (state m)) n ≡ Some (item_at m p bytes))
 found t m a n p e =
-    let q = placed (module_items t (state m)) n p e in
+    let q = mapped_at (λ i. i.place) (module_items t (state m)) n p e in
     let i = q.0 in
     let w = made t m a n i q.1 in
     (i.bytes, sym (ap (slice_get m) q.2) ∙ w.0, q.1 ∙ ap Some (w.1 ∙ ap (λ x. item_at m x i.bytes) q.2))

@@ -28,7 +28,7 @@ abbrev pub wanted : Section → Option BodyKind → Kind → Bool
 wanted (Numbered t) o k = same_table t (table_in o (manner_of k).table)
 wanted (Kinds low high) o k = within low high (number_of k)
 
-wanted_is : (sec : Section) (s : State) (r : Record) (k : Kind) → judged r ≡ Ok k → selects sec s r ≡ wanted sec s.opened k
+pub wanted_is : (sec : Section) (s : State) (r : Record) (k : Kind) → judged r ≡ Ok k → selects sec s r ≡ wanted sec s.opened k
 wanted_is (Numbered t) s r k e = ap (λ j. same_table t (table_judged s j)) e
 wanted_is (Kinds low high) s r k e = ap (of_kinds low high) (starts_so k r e).1
 

@@ -110,7 +110,7 @@ module _ (f : Item → Body) (m : Module) (xs : List Item) (i : Item) where
   entries_begun body_kind.EntryPoint e = ap (λ l. l ++ f i ∷ []) e ∙ sym (map_push f xs i)
 
 -- the record of a kind that ends a body, and no other, ends one
-ends_is : (r : Record) (k : Kind) → judged r ≡ Ok k → ends r ≡ finishes k
+pub ends_is : (r : Record) (k : Kind) → judged r ≡ Ok k → ends r ≡ finishes k
 ends_is r k e = ap ends (starts_so k r e).1
 
 -- what stands in the open body before a place

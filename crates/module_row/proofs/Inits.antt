@@ -1,9 +1,11 @@
 -- The inits of the overrides, as they are read off.
-use Rattle.std.proofs.Common.{◌≡◌, ℕ, zero, suc, ◌<◌, List, [], ◌∷◌, ◌++◌, map, length, take, get_or, flat_map, slice_get, Some, refl, sym, ap, ◌∙◌, arith, append-nil}
+use Rattle.std.proofs.Common.{◌≡◌, ℕ, zero, suc, ◌+◌, ◌<◌, List, [], ◌∷◌, ◌++◌, map, length, take, get_or, flat_map, slice_get, Some, refl, sym, ap, ◌∙◌, arith, append-nil}
 use Rattle.std.proofs.lemmas.Grind.{flat_map-append}
-use Rattle.std.proofs.lemmas.List.{length-map}
-use Rattle.std.proofs.lemmas.Option.{same_Some}
+use Rattle.std.proofs.lemmas.List.{length-map, map-append}
+use Rattle.std.proofs.lemmas.Option.{slice_get-get_or}
+use Rattle.walk.proofs.Places.{one_more}
 use Rattle.rules.specs.Items.{at}
+use Rattle.promises.proofs.Among.{at_is}
 
 -- what comes of the element with a number, in two lists that are told alike
 module _ {X Y Z : Type 0} (f : X → List Z) (g : Y → List Z) where
@@ -31,15 +33,8 @@ module _ {X Y Z : Type 0} (f : X → List Z) (g : Y → List Z) where
 
 -- what is read at one number
 pub read_at : {X Z : Type 0} (f : X → List Z) (xs : List X) (n : ℕ) (d : X) → n < length xs → flat_map f (flat_map (at xs) (n ∷ [])) ≡ f (get_or xs n d)
-read_at f xs n d l = ap (flat_map f) (append-nil (at xs n)) ∙ here f xs n d l
-  where
-    here : {X Z : Type 0} (f : X → List Z) (xs : List X) (n : ℕ) (d : X) → n < length xs → flat_map f (at xs n) ≡ f (get_or xs n d)
-    here f [] n d l = absurd (omega arith)
-    here f (x ∷ xs) zero d l = append-nil (f x)
-    here f (x ∷ xs) (suc n) d l = here f xs n d (omega arith)
+read_at f xs n d l = ap (flat_map f) (append-nil (at xs n) ∙ at_is xs n (get_or xs n d) (slice_get-get_or xs n d l)) ∙ append-nil (f (get_or xs n d))
 
 -- one more item
-pub mapped_more : {X Y : Type 0} (f : X → Y) (xs : List X) (n : ℕ) (x : X) → slice_get xs n ≡ Some x → map f (take n xs) ++ f x ∷ [] ≡ map f (take (suc n) xs)
-mapped_more f [] n x e = absurd cc
-mapped_more f (y ∷ xs) zero x e = ap (λ z. f z ∷ []) (sym (same_Some y x e))
-mapped_more f (y ∷ xs) (suc n) x e = ap (λ l. f y ∷ l) (mapped_more f xs n x e)
+pub mapped_more : {X Y : Type 0} (f : X → Y) (xs : List X) (n : ℕ) (x : X) → slice_get xs n ≡ Some x → map f (take n xs) ++ f x ∷ [] ≡ map f (take (n + 1) xs)
+mapped_more f xs n x e = sym (ap (map f) (one_more xs n x e) ∙ map-append f (take n xs) (x ∷ []))

@@ -1,5 +1,5 @@
+pub mod Counted
 pub mod Rooms
 pub mod WithRanks
-pub mod Sealed
 pub mod Sorted
 pub mod Inits

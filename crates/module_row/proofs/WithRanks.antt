@@ -1,31 +1,20 @@
 -- The items of the four tables with their ranks.
-use Rattle.std.proofs.Common.{◌≡◌, ℕ, zero, suc, ◌+◌, ◌≤◌, List, [], ◌∷◌, ◌++◌, map, length, length-append, slice_get, flat_map, Some, refl, sym, ap, ◌∙◌, arith, append_assoc, append-nil}
+use Rattle.std.proofs.Common.{◌≡◌, ℕ, suc, ◌≤◌, List, [], ◌∷◌, ◌++◌, map, length, length-append, sym, ap, ◌∙◌, arith, append_assoc}
 use Rattle.std.proofs.lemmas.List.{map-append, length-map}
-use Rattle.rules.specs.Module.{Item, Module}
-use Rattle.promises.specs.Rows.{RowItem, above, value_ranks, rank, counted, row_items}
-use Rattle.promises.proofs.Among.{at_is}
+use Rattle.rules.specs.Module.{Module}
+use Rattle.promises.specs.Rows.{RowItem, counted, row_items}
 use Rattle.module_row.specs.Ranked.{with_rank, with_ranks}
-
-counted_next : (f : ℕ → RowItem) (n k : ℕ) → counted f n k ++ f (n + k) ∷ [] ≡ counted f n (suc k)
-counted_next f n zero = let e : n + 0 ≡ n = omega arith in ap (λ j. f j ∷ []) e
-counted_next f n (suc k) =
-    let e : n + suc k ≡ suc n + k = omega arith in
-    ap (λ l. f n ∷ l) (ap (λ j. counted f (suc n) k ++ f j ∷ []) e ∙ counted_next f (suc n) k)
+use Rattle.module_row.proofs.Counted.{counted_more, counted_size}
 
 module _ (m : Module) where
   -- one more item of a table
   pub pushed : {X : Type 0} (shown : X → ℕ × RowItem) (before : List (ℕ × RowItem)) (f : ℕ → RowItem) (k : ℕ) (xs : List X) (x : X) → map shown xs ≡ before ++ with_ranks m f k → shown x ≡ with_rank m (f k) → map shown (xs ++ x ∷ []) ≡ before ++ with_ranks m f (suc k)
   pushed shown before f k xs x e s =
-      let z : 0 + k ≡ k = omega arith in
       map-append shown xs (x ∷ [])
       ∙ ap (λ l. l ++ shown x ∷ []) e
       ∙ append_assoc before (with_ranks m f k) (shown x ∷ [])
       ∙ ap (λ p. before ++ (with_ranks m f k ++ p ∷ [])) s
-      ∙ ap (λ l. before ++ l) (sym (map-append (with_rank m) (counted f 0 k) (f k ∷ [])) ∙ ap (map (with_rank m)) (ap (λ j. counted f 0 k ++ f j ∷ []) (sym z) ∙ counted_next f 0 k))
-
-  counted_size : (f : ℕ → RowItem) (n k : ℕ) → length (counted f n k) ≡ k
-  counted_size f n zero = refl
-  counted_size f n (suc k) = ap suc (counted_size f (suc n) k)
+      ∙ ap (λ l. before ++ l) (sym (map-append (with_rank m) (counted f 0 k) (f k ∷ [])) ∙ ap (map (with_rank m)) (counted_more f k))
 
   -- there are as many as have been pushed
   pub so_many : {X : Type 0} (shown : X → ℕ × RowItem) (before : List (ℕ × RowItem)) (f : ℕ → RowItem) (k : ℕ) (xs : List X) → map shown xs ≡ before ++ with_ranks m f k → k ≤ length xs
@@ -36,12 +25,6 @@ module _ (m : Module) where
       let d : length (with_ranks m f k) ≡ length (counted f 0 k) = length-map _ _ in
       let s = counted_size f 0 k in
       omega arith
-
-  pub override_rank : (o : ℕ) (v : Item) → slice_get m.overrides o ≡ Some v → above (value_ranks m v) ≡ rank m (RowItem.override o)
-  override_rank o v e = sym (ap (λ l. above (flat_map (value_ranks m) l)) (at_is m.overrides o v e) ∙ ap above (append-nil (value_ranks m v)))
-
-  pub constant_rank : (c : ℕ) (v : Item) → slice_get m.constants c ≡ Some v → above (value_ranks m v) ≡ rank m (RowItem.constant c)
-  constant_rank c v e = sym (ap (λ l. above (flat_map (value_ranks m) l)) (at_is m.constants c v e) ∙ ap above (append-nil (value_ranks m v)))
 
   -- the four tables one after the other
   pub all_ranked : ((with_ranks m RowItem.type (length m.types) ++ with_ranks m RowItem.override (length m.overrides)) ++ with_ranks m RowItem.constant (length m.constants)) ++ with_ranks m RowItem.expression (length m.expressions) ≡ map (with_rank m) (row_items m)

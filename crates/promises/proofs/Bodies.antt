@@ -1,9 +1,9 @@
 -- The bodies of a draft's module, by places.
-use Rattle.std.proofs.Common.{◌≡◌, ℕ, zero, suc, ◌+◌, ◌<◌, ◌≤◌, true, List, [], ◌∷◌, ◌++◌, map, length, take, slice_get, Some, None, Option, refl, subst, arith}
+use Rattle.std.proofs.Common.{◌≡◌, ℕ, suc, ◌+◌, ◌<◌, ◌≤◌, true, List, [], ◌∷◌, ◌++◌, map, length, take, slice_get, Some, None, Option, refl, subst, arith}
 use Rattle.std.specs.List.{AllByRecursion}
 use Rattle.std.specs.Option.{option_map}
 use Rattle.std.proofs.ByRecursion.{All-append, All-weaker}
-use Rattle.std.proofs.lemmas.Option.{slice_get_within}
+use Rattle.std.proofs.lemmas.Option.{slice_get_within, slice_get-get_or}
 use Rattle.ir.specs.declared.kinds.Kind.{Kind}
 use Rattle.ir.specs.declared.kinds.Kind.TheVariants as kind
 use Rattle.rules.specs.Module.{Record, Item, Body}
@@ -67,12 +67,7 @@ module _ (m : List Record) (a : Accepted start m) where
   up_to to p (Some r) e u = (u, slice_get_within m to r e)
 
   pub from_up_to : (to p : ℕ) (o : Option Record) → slice_get m to ≡ o → to < length m → p ≤ to → UpTo (option_map (item_at m to) o) p
-  from_up_to to p None e l u = absurd (none_within m to e l)
-    where
-      none_within : (xs : List Record) (n : ℕ) → slice_get xs n ≡ None → n < length xs → ⊥
-      none_within [] n e l = absurd (omega arith)
-      none_within (x ∷ xs) zero e l = absurd cc
-      none_within (x ∷ xs) (suc n) e l = none_within xs n e (omega arith)
+  from_up_to to p None e l u = let g = slice_get-get_or m to [] l in absurd cc
   from_up_to to p (Some r) e l u = u
 
   -- a body is open at what stands in it

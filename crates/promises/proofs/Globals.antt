@@ -1,7 +1,7 @@
 -- The handles of types and of global expressions are inside.
-use Rattle.std.proofs.Common.{◌≡◌, ℕ, ◌<◌, ◌≤◌, Bool, true, false, not, ◌||◌, List, [], map, filter, length, take, flat_map, Ok, sym, refl, ap, subst, inl, inr, ◌⊎◌, arith, ltb-true}
+use Rattle.std.proofs.Common.{◌≡◌, ℕ, ◌<◌, ◌≤◌, Bool, true, false, ◌||◌, List, [], map, filter, length, take, flat_map, Ok, sym, refl, ap, subst, inl, inr, ◌⊎◌, arith, ltb-true}
 use Rattle.std.proofs.ByRecursion.{All-weaker}
-use Rattle.std.proofs.lemmas.Bool.{or_parts}
+use Rattle.std.proofs.lemmas.Bool.{or_parts, not-true}
 use Rattle.ir.specs.declared.handle.Table.{Table}
 use Rattle.ir.specs.declared.handle.Table.TheVariants as table
 use Rattle.ir.specs.declared.kinds.Kind.TheVariants as kind
@@ -116,10 +116,6 @@ override_or_none : (y : Expression) → (y ≡ expression.Override) ⊎ (fields_
 override_or_none expression.Override = inl refl
 override_or_none y = inr refl
 
-not_true : (b : Bool) → not b ≡ true → b ≡ false
-not_true true e = absurd cc
-not_true false e = refl
-
 none_hold : (P : ℕ → Type 0) (ns : List ℕ) → ns ≡ [] → All P ns
 none_hold P ns e = subst (All P) (sym e) tt
 
@@ -166,7 +162,7 @@ module _ (m : Module) where
   global_inside x i l ((y, w), (z, c)) h =
       let s = sizes m in
       let hs = handles_of i.bytes in
-      let placed = not_true (in_bodies_only i) h.0 in
+      let placed = not-true (in_bodies_only i) h.0 in
       let operands = map (earlier rule.SealedEarlier table.Expressions x i.place) (numbers table.Expressions (handles i)) in
       let before = below_size x (length m.expressions) (numbers table.Expressions (handles i)) (omega arith) (below_from_hold rule.SealedEarlier table.Expressions x i.place (numbers table.Expressions (handles i)) (hold_left operands (ty_tests s i) h.1)) in
       let types = from_filter table.Types (IsInside s) hs (inside_from_hold rule.SealedInside s i.place (filter (is_of table.Types) hs) (hold_right operands (ty_tests s i) h.1)) in

@@ -66,23 +66,20 @@ pub of_all : (t : Table) (P : Handle → Type 0) (hs : List Handle) → AllByRec
 of_all t P [] a = tt
 of_all t P (h ∷ hs) a = (λ e. a.0, of_all t P hs a.1)
 
-module _ (s : Sizes) (t : Table) where
-  numbered_one : (b : Bool) (h : Handle) (ns : List ℕ) → is_of t h ≡ b → AllByRecursion (λ n. n < size_in s t) (cond b (index_of h ∷ ns) ns) → (is_of t h ≡ true → IsInside s h) × AllByRecursion (λ n. n < size_in s t) ns
-  numbered_one true h ns e a = (λ i. subst (λ u. index_of h < size_in s u) (sym (same_code (table_of h) t i)) a.0, a.1)
-  numbered_one false h ns e a = (λ i. absurd cc, a)
+-- what holds of a list that may have one more before it
+parted : {X : Type 0} (P : X → Type 0) (b : Bool) (x : X) (xs : List X) → AllByRecursion P (cond b (x ∷ xs) xs) → (b ≡ true → P x) × AllByRecursion P xs
+parted P true x xs a = (λ e. a.0, a.1)
+parted P false x xs a = (λ e. absurd cc, a)
 
+module _ (s : Sizes) (t : Table) where
   pub from_numbers : (hs : List Handle) → AllByRecursion (λ n. n < size_in s t) (numbers t hs) → OfTable t (IsInside s) hs
   from_numbers [] a = tt
-  from_numbers (h ∷ hs) a = let r = numbered_one (is_of t h) h (numbers t hs) refl a in (r.0, from_numbers hs r.1)
+  from_numbers (h ∷ hs) a = let r = parted (λ n. n < size_in s t) (is_of t h) (index_of h) (numbers t hs) a in (λ i. subst (λ u. index_of h < size_in s u) (sym (same_code (table_of h) t i)) (r.0 i), from_numbers hs r.1)
 
 module _ (t : Table) (P : Handle → Type 0) where
-  kept_one : (b : Bool) (h : Handle) (hs : List Handle) → is_of t h ≡ b → AllByRecursion P (cond b (h ∷ hs) hs) → (is_of t h ≡ true → P h) × AllByRecursion P hs
-  kept_one true h hs e a = (λ i. a.0, a.1)
-  kept_one false h hs e a = (λ i. absurd cc, a)
-
   pub from_filter : (hs : List Handle) → AllByRecursion P (filter (is_of t) hs) → OfTable t P hs
   from_filter [] a = tt
-  from_filter (h ∷ hs) a = let r = kept_one (is_of t h) h (filter (is_of t) hs) refl a in (r.0, from_filter hs r.1)
+  from_filter (h ∷ hs) a = let r = parted P (is_of t h) h (filter (is_of t) hs) a in (r.0, from_filter hs r.1)
 
 -- the parts of a record that is accepted
 checked : (c : Bool) (j k : Kind) → cond c (Ok j) (Err BadField) ≡ Ok k → j ≡ k

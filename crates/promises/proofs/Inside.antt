@@ -18,6 +18,7 @@ use Rattle.sealing.specs.Seal as seals
 use Rattle.sealing.specs.Seal.{seal, seal_of, all_tests, seal_tests, in_bodies_only, ty_tests, argument_tests, compare_tests}
 use Rattle.promises.specs.Inside.{ItemInside, EmitInside, ArgumentInside, BodyInside, ModuleInside, SealedInside}
 use Rattle.promises.proofs.Handles.{inside_from_hold}
+use Rattle.promises.proofs.Among.{all_in}
 use Rattle.promises.proofs.Made.{Made, AType, AnExpression, AStatement, BodyMade, ModuleMade}
 use Rattle.promises.proofs.Tested.{All, both, tested_each, tested_all, own_items}
 use Rattle.promises.proofs.Globals.{type_inside, ConstTested, global_inside}
@@ -95,13 +96,9 @@ module _ (m : Module) (w : ModuleMade m) (p : ModulePassed m) where
   functions_passed : All (BodyPassed s) m.functions
   functions_passed =
       bodies_passed s m.functions
-      (tested_all (λ b. (f : Option ℕ) × AllHold (body_tests s f b)) (λ b. Unit {0}) (λ f. body_tests s (Some f)) m.functions (λ f b l q t. (Some f, t)) (any m.functions) p.functions)
+      (tested_all (λ b. (f : Option ℕ) × AllHold (body_tests s f b)) (λ b. Unit {0}) (λ f. body_tests s (Some f)) m.functions (λ f b l q t. (Some f, t)) (all_in (λ b. Unit {0}) m.functions (λ b h. tt)) p.functions)
       (hold_each (seals.body_tests s) m.functions p.sealed_functions)
       (hold_each (seals.compared_tests s) m.functions p.compared_functions)
-    where
-      any : (bs : List Body) → All (λ b. Unit {0}) bs
-      any [] = tt
-      any (b ∷ bs) = (tt, any bs)
 
   entries_passed : All (BodyPassed s) m.entries
   entries_passed =

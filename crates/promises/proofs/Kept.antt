@@ -28,15 +28,16 @@ use Rattle.items.specs.Sections.{selects}
 use Rattle.items.specs.Between.{item_at, items_between}
 use Rattle.items.specs.Whole.{items_of, ends, ending_from, body_of, module_of}
 use Rattle.items.proofs.Between.{front}
-use Rattle.items.proofs.Places.{wanted, next_at}
+use Rattle.items.proofs.Places.{wanted, wanted_is, next_at}
 use Rattle.items.proofs.Whole.{module_is}
 use Rattle.row.specs.Row.{Has}
 use Rattle.row.proofs.Places.{In, in_from_has, has_from_in, in_left, in_either}
 use Rattle.sealing.specs.Seal.{seal_of}
+use Rattle.sealing.proofs.Kinded.{last_has}
 use Rattle.promises.specs.Inside.{IsInside, ItemInside, ItemsInside, BodyInside, ModuleInside}
 use Rattle.promises.specs.Kept.{StandsIn, RecordInside, SealedKept}
 use Rattle.promises.proofs.Handles.{handles_are}
-use Rattle.promises.proofs.Made.{PiecesAre, Made, reached, made, AType, AnExpression, wanted_is, last_are, ModuleMade, module_made}
+use Rattle.promises.proofs.Made.{PiecesAre, Made, reached, made, AType, AnExpression, ModuleMade, module_made}
 use Rattle.promises.proofs.Passed.{sealed_draft}
 use Rattle.promises.proofs.Inside.{module_inside}
 use Rattle.promises.proofs.Among.{in_all, from_flat}
@@ -222,7 +223,7 @@ module _ (m : List Record) (a : Accepted start m) where
                   | inl g ↦ inner_of b.arguments inside.arguments (inner_items (Kinds 13 13)) e g
                   | inr h ↦
                       elim (in_either (entries_of_any b.result) _ e h) [
-                        | inl g ↦ inner_of (option_to_list b.result) inside.result (last_are (Inner t.item) (items_between (Kinds 14 14) m (suc j.place) to) (inner_items (Kinds 14 14))) e (any_items b.result e g)
+                        | inl g ↦ inner_of (option_to_list b.result) inside.result (last_has (Inner t.item) (items_between (Kinds 14 14) m (suc j.place) to) (inner_items (Kinds 14 14))) e (any_items b.result e g)
                         | inr h ↦
                             elim (in_either (items_entries b.locals) _ e h) [
                               | inl g ↦ inner_of b.locals inside.locals (inner_items (Numbered table.LocalVariables)) e g
@@ -284,7 +285,7 @@ module _ (m : List Record) (a : Accepted start m) where
                             | inl g ↦ outer_of M.globals inside.globals (outer_items kind.GlobalVariable refl M.globals (placed_all m a (Numbered table.GlobalVariables)) w.globals) e g
                             | inr h ↦
                                 elim (in_either (entries_of_any M.special) _ e h) [
-                                  | inl g ↦ outer_of (option_to_list M.special) inside.special (outer_items kind.SpecialTypes refl (option_to_list M.special) (last_are (Placed m) (items_of (Kinds 6 6) m) (placed_all m a (Kinds 6 6))) w.special) e (any_items closed M (bodies_are m a) M.special e g)
+                                  | inl g ↦ outer_of (option_to_list M.special) inside.special (outer_items kind.SpecialTypes refl (option_to_list M.special) (last_has (Placed m) (items_of (Kinds 6 6) m) (placed_all m a (Kinds 6 6))) w.special) e (any_items closed M (bodies_are m a) M.special e g)
                                   | inr h ↦
                                       elim (in_either (items_entries M.predeclared) _ e h) [
                                         | inl g ↦ outer_of M.predeclared inside.predeclared (outer_items kind.Predeclared refl M.predeclared (placed_all m a (Kinds 7 7)) w.predeclared) e g
@@ -293,7 +294,7 @@ module _ (m : List Record) (a : Accepted start m) where
                                               | inl g ↦ outer_of M.filters inside.filters (outer_items kind.Filter refl M.filters (placed_all m a (Numbered table.Filters)) w.filters) e g
                                               | inr h ↦
                                                   elim (in_either (entries_of_any M.leaf) _ e h) [
-                                                    | inl g ↦ outer_of (option_to_list M.leaf) inside.leaf (outer_items kind.Leaf refl (option_to_list M.leaf) (last_are (Placed m) (items_of (Kinds 9 9) m) (placed_all m a (Kinds 9 9))) w.leaf) e (any_items closed M (bodies_are m a) M.leaf e g)
+                                                    | inl g ↦ outer_of (option_to_list M.leaf) inside.leaf (outer_items kind.Leaf refl (option_to_list M.leaf) (last_has (Placed m) (items_of (Kinds 9 9) m) (placed_all m a (Kinds 9 9))) w.leaf) e (any_items closed M (bodies_are m a) M.leaf e g)
                                                     | inr h ↦
                                                         elim (in_either (items_entries M.expressions) _ e h) [
                                                           | inl g ↦ outer_of M.expressions inside.expressions (outer_expressions M.expressions (placed_all m a (Numbered table.Expressions)) w.expressions (selected_between m a (Numbered table.Expressions) (length m) 0 (length m) (omega arith) (omega arith))) e g

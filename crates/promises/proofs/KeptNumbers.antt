@@ -1,8 +1,8 @@
 -- What a kept Emit covers, and the argument that a kept FunctionArgument gives.
-use Rattle.std.proofs.Common.{◌≡◌, ℕ, suc, ◌+◌, ◌<◌, ◌≤◌, ◌⊎◌, Bool, true, false, cond, not, ◌||◌, eqb, List, [], ◌∷◌, ◌++◌, length, take, slice_get, Some, None, Ok, Option, sym, refl, ap, ◌∙◌, subst, inl, inr, arith}
+use Rattle.std.proofs.Common.{◌≡◌, ℕ, suc, ◌+◌, ◌<◌, ◌≤◌, Bool, true, false, cond, not, ◌||◌, eqb, List, [], ◌∷◌, ◌++◌, length, take, slice_get, Some, None, Ok, Option, sym, refl, ap, ◌∙◌, subst, inl, inr, arith}
 use Rattle.std.specs.List.{AllByRecursion}
 use Rattle.std.proofs.ByRecursion.{All-append}
-use Rattle.std.proofs.lemmas.Bool.{cases_eq, eqb-true}
+use Rattle.std.proofs.lemmas.Bool.{cases_eq, or_cases, eqb-true}
 use Rattle.std.proofs.lemmas.Option.{same_Some, slice_get_within, get_or_from_slice_get}
 use Rattle.ir.specs.declared.kinds.Kind.{Kind}
 use Rattle.ir.specs.declared.kinds.Kind.TheVariants as kind
@@ -27,18 +27,17 @@ use Rattle.items.specs.Sections.{of_kinds, selects}
 use Rattle.items.specs.Between.{item_at, items_between}
 use Rattle.items.specs.Whole.{ends, ending_from, body_of, module_of}
 use Rattle.items.proofs.Between.{between_append, split}
-use Rattle.items.proofs.Places.{wanted, next_at}
+use Rattle.items.proofs.Places.{wanted, wanted_is, next_at}
 use Rattle.items.proofs.Whole.{module_is}
 use Rattle.sealing.specs.Seal.{FunctionArgument, global_tests, seal_of}
 use Rattle.row.specs.Row.{Has}
 use Rattle.row.proofs.Places.{In, in_from_has, in_right}
 use Rattle.promises.specs.Inside.{EmitInside, ArgumentInside, BodyInside, ModuleInside}
 use Rattle.promises.specs.Kept.{StandsIn, NumbersInside, SealedNumbers}
-use Rattle.promises.proofs.Made.{wanted_is}
 use Rattle.promises.proofs.Tested.{tested_all}
 use Rattle.promises.proofs.Passed.{ModulePassed, SealedDraft, sealed_draft}
 use Rattle.promises.proofs.Inside.{module_inside}
-use Rattle.promises.proofs.Among.{in_all}
+use Rattle.promises.proofs.Among.{in_all, all_in}
 use Rattle.promises.proofs.Opened.{ends_there}
 use Rattle.promises.proofs.Kept.{found}
 use Rattle.promises.proofs.Bodies.{BodyAt, up_to, stands_open, bodies_are}
@@ -53,11 +52,11 @@ no_end : (k : ℕ) (r : Record) → starts_with k r ≡ true → ends r ≡ true
 no_end k [] s e = absurd cc
 no_end k (byte ∷ body) s e = let a = eqb-true byte k s in let b = eqb-true byte 31 e in omega arith
 
-argument_kind : (r : Record) (k : Kind) → judged r ≡ Ok k → starts_with FunctionArgument r ≡ true → k ≡ kind.Expression expression.FunctionArgument
-argument_kind r k j s =
-    let e : eqb (number_of k) FunctionArgument ≡ true = ap (starts_with FunctionArgument) (sym (starts_so k r j).1) ∙ s in
-    let n = eqb-true (number_of k) FunctionArgument e in
-    same_Some k (kind.Expression expression.FunctionArgument) (sym (number_kind k) ∙ ap kind_of n)
+kind_by : (x : Kind) (r : Record) (k : Kind) → judged r ≡ Ok k → starts_with (number_of x) r ≡ true → k ≡ x
+kind_by x r k j s =
+    let e : eqb (number_of k) (number_of x) ≡ true = ap (starts_with (number_of x)) (sym (starts_so k r j).1) ∙ s in
+    let n = eqb-true (number_of k) (number_of x) e in
+    same_Some k x (sym (number_kind k) ∙ ap kind_of n ∙ number_kind x)
 
 module _ (m : List Record) (a : Accepted start m) where
   abbrev before : ℕ → State
@@ -112,7 +111,7 @@ module _ (m : List Record) (a : Accepted start m) where
         let n = next_at m a p (omega arith) in
         let same : n.bytes ≡ r = same_Some n.bytes r (sym n.has ∙ h) in
         let judged_so : judged r ≡ Ok n.kind = ap judged (sym same) ∙ n.admits.kind_is in
-        let k = argument_kind r n.kind judged_so s in
+        let k = kind_by (kind.Expression expression.FunctionArgument) r n.kind judged_so s in
         let o = stands_open m a b t p stands in
         let selected : selects (Numbered table.LocalExpressions) (before p) r ≡ true =
         wanted_is (Numbered table.LocalExpressions) (before p) r n.kind judged_so
@@ -126,12 +125,6 @@ emit_inside_only : (o : Option BodyKind) → on_side o (manner_of (kind.Statemen
 emit_inside_only None e n = absurd cc
 emit_inside_only (Some x) e n = absurd cc
 
-emit_kind : (r : Record) (k : Kind) → judged r ≡ Ok k → starts_with Emit r ≡ true → k ≡ kind.Statement statement.Emit
-emit_kind r k j s =
-    let e : eqb (number_of k) Emit ≡ true = ap (starts_with Emit) (sym (starts_so k r j).1) ∙ s in
-    let n = eqb-true (number_of k) Emit e in
-    same_Some k (kind.Statement statement.Emit) (sym (number_kind k) ∙ ap kind_of n)
-
 -- a record of another kind is not replaced
 not_started : (k l : ℕ) (r : Record) → starts_with k r ≡ true → Starts r l → k ≡ l
 not_started k l r s t = let e : eqb l k ≡ true = sym (ap (starts_with k) t.1) ∙ s in sym (eqb-true l k e)
@@ -141,20 +134,12 @@ not_replaced k s p r e a b c (inl x) = a (not_started k 6 r e x.0)
 not_replaced k s p r e a b c (inr (inl x)) = b (not_started k 9 r e x.0)
 not_replaced k s p r e a b c (inr (inr x)) = c (not_started k 14 r e x.0)
 
-or_parted : (x y : Bool) → (x || y) ≡ true → (x ≡ true) ⊎ (y ≡ true)
-or_parted true y e = inl refl
-or_parted false y e = inr e
-
 -- a FunctionArgument is no global expression of a sealed module
 placed_only : (m : Module) → ModulePassed m → AllByRecursion (λ i. is FunctionArgument i ≡ true → ⊥) m.expressions
 placed_only m p =
     tested_all (λ i. is FunctionArgument i ≡ true → ⊥) (λ i. Unit {0}) (global_tests (sizes m)) m.expressions
-    (λ x i l q t e. contrary (is FunctionArgument i) (is 74 i || (is 75 i || is 87 i)) e t.0) (any m.expressions) p.expressions
+    (λ x i l q t e. contrary (is FunctionArgument i) (is 74 i || (is 75 i || is 87 i)) e t.0) (all_in (λ i. Unit {0}) m.expressions (λ i h. tt)) p.expressions
   where
-    any : (is : List Item) → AllByRecursion (λ i. Unit {0}) is
-    any [] = tt
-    any (i ∷ is) = (tt, any is)
-
     contrary : (x y : Bool) → x ≡ true → not (x || y) ≡ true → ⊥
     contrary true y e t = absurd cc
     contrary false y e t = absurd cc
@@ -179,7 +164,7 @@ module _ (m : List Record) (a : Accepted start m) (e : seal_of (state m) ≡ Non
   emit_in_body s none =
       let n = next_at m a p (slice_get_within m p r h) in
       let same : n.bytes ≡ r = same_Some n.bytes r (sym n.has ∙ h) in
-      let k = emit_kind r n.kind (ap judged (sym same) ∙ n.admits.kind_is) s in
+      let k = kind_by (kind.Statement statement.Emit) r n.kind (ap judged (sym same) ∙ n.admits.kind_is) s in
       emit_inside_only (state (take p m)).opened (subst (λ z. on_side (state (take p m)).opened (manner_of z).side ≡ true) k n.admits.on_its_side) none
 
   argument_in_body : starts_with FunctionArgument r ≡ true → (state (take p m)).opened ≡ None → ⊥
@@ -188,7 +173,7 @@ module _ (m : List Record) (a : Accepted start m) (e : seal_of (state m) ≡ Non
       let n = next_at m a p within in
       let same : n.bytes ≡ r = same_Some n.bytes r (sym n.has ∙ h) in
       let judged_so : judged r ≡ Ok n.kind = ap judged (sym same) ∙ n.admits.kind_is in
-      let k = argument_kind r n.kind judged_so s in
+      let k = kind_by (kind.Expression expression.FunctionArgument) r n.kind judged_so s in
       let selected : selects (Numbered table.Expressions) (state (take p m)) r ≡ true =
       wanted_is (Numbered table.Expressions) (state (take p m)) r n.kind judged_so
       ∙ ap (λ z. wanted (Numbered table.Expressions) (state (take p m)).opened z) k
@@ -198,7 +183,7 @@ module _ (m : List Record) (a : Accepted start m) (e : seal_of (state m) ≡ Non
 
   placed_so : (starts_with Emit r || starts_with FunctionArgument r) ≡ true → (b : Body) × Has (M.functions ++ M.entries) b × StandsIn b p
   placed_so o =
-      elim (or_parted (starts_with Emit r) (starts_with FunctionArgument r) o) [
+      elim (or_cases (starts_with Emit r) (starts_with FunctionArgument r) o) [
         | inl s ↦
             elim (found m a e p r h) [
               | inl f ↦ elim f.place [ inl none ↦ absurd (emit_in_body s none) | inr b ↦ b ]

@@ -1,9 +1,10 @@
 -- Of which kinds the items of an accepted draft's module are, and what they took.
-use Rattle.std.proofs.Common.{◌≡◌, ℕ, zero, suc, ◌≤◌, Bool, true, false, cond, ◌||◌, List, [], ◌∷◌, ◌++◌, map, length, take, drop, Some, None, Ok, fold, Option, sym, refl, ap, ◌∙◌, subst, inl, inr, arith, take-append-drop}
+use Rattle.std.proofs.Common.{◌≡◌, ℕ, suc, ◌≤◌, Bool, true, ◌||◌, List, [], ◌∷◌, ◌++◌, map, length, take, drop, Some, None, Ok, fold, Option, sym, refl, ap, ◌∙◌, subst, inl, inr, arith, take-append-drop}
 use Rattle.std.specs.List.{AllByRecursion}
 use Rattle.std.specs.Option.{option_to_list, option_eq}
 use Rattle.std.proofs.ByRecursion.{All-push}
 use Rattle.std.proofs.lemmas.Bool.{cases_lt, eq-eqb}
+use Rattle.std.proofs.lemmas.List.{take-take}
 use Rattle.ir.specs.declared.handle.Table.{Table}
 use Rattle.ir.specs.declared.kinds.Kind.{Kind}
 use Rattle.ir.specs.declared.kinds.Kind.TheVariants as kind
@@ -28,17 +29,17 @@ use Rattle.draft.specs.Manner.{manner_of}
 use Rattle.draft.specs.State.{State, start, step, stepped, state, item_of, waiting_after, meets, same_pieces}
 use Rattle.draft.specs.Admitted.{Accepted}
 use Rattle.draft.proofs.Stepping.{Admits, admitted_kind, step_is, throughout}
-use Rattle.arena.specs.Memory.{table_judged}
-use Rattle.arena.specs.Viewing.{same_table}
 use Rattle.laws.proofs.KindBytes.{starts_so}
 use Rattle.items.specs.declared.section.Section.{Section}
 use Rattle.items.specs.declared.section.Section.TheVariants.{Numbered, Kinds}
-use Rattle.items.specs.Sections.{of_kinds, selects}
+use Rattle.items.specs.Sections.{selects}
 use Rattle.items.specs.Between.{gained, items_between}
-use Rattle.items.specs.Whole.{last_of, items_of, ending_from, body_of, module_of}
+use Rattle.items.specs.Whole.{items_of, ending_from, body_of, module_of}
 use Rattle.items.proofs.Between.{none_between, front}
-use Rattle.items.proofs.Places.{wanted}
+use Rattle.items.proofs.Places.{wanted, wanted_is}
+use Rattle.tables.proofs.Weighing.{accepted_back}
 use Rattle.sealing.proofs.FieldTables.{Allowed, fields_allowed, record_allowed}
+use Rattle.sealing.proofs.Kinded.{one_more_if, last_has}
 
 pub starts_is : (r : Record) (k : Kind) → judged r ≡ Ok k → starts_with (number_of k) r ≡ true
 starts_is r k e = ap (starts_with (number_of k)) (starts_so k r e).1 ∙ eq-eqb (number_of k) (number_of k) refl
@@ -102,38 +103,20 @@ taken_so n (Some p) ws h j x = same_sort p n.takes ws (sym (ap (λ o. option_eq 
 pub made : (s : State) (r : Record) (k : Kind) → Admits s r k → Reached s → (manner_of k).joins ≡ None → Made k (item_of s r)
 made s r k a x j = record { kind_is = a.kind_is; taken = taken_so (manner_of k) s.waits s.waiting a.allowed j x }
 
-pub wanted_is : (sec : Section) (s : State) (r : Record) (k : Kind) → judged r ≡ Ok k → selects sec s r ≡ wanted sec s.opened k
-wanted_is (Numbered t) s r k e = ap (λ j. same_table t (table_judged s j)) e
-wanted_is (Kinds low high) s r k e = ap (of_kinds low high) (starts_so k r e).1
-
-accepted_back : (s : State) (m n : List Record) → Accepted s (m ++ n) → Accepted (fold step s m) n
-accepted_back s [] n a = a
-accepted_back s (r ∷ m) n a = accepted_back (step s r) m n a.1
-
-pub take_front : (n k : ℕ) (xs : List Record) → n ≤ k → take n (take k xs) ≡ take n xs
-take_front zero k xs l = refl
-take_front (suc n) zero xs l = absurd (omega arith)
-take_front (suc n) (suc k) [] l = refl
-take_front (suc n) (suc k) (x ∷ xs) l = ap (λ ys. x ∷ ys) (take_front n k xs (omega arith))
-
 accepted_between : (m : List Record) (from to : ℕ) → from ≤ to → Accepted start m → Accepted (state (take from m)) (drop from (take to m))
 unfolding state
 accepted_between m from to l a =
     let whole = subst (Accepted start) (sym (take-append-drop from (take to m))) (front m to a) in
-    subst (λ x. Accepted (fold step start x) (drop from (take to m))) (take_front from to m l) (accepted_back start (take from (take to m)) (drop from (take to m)) whole)
+    subst (λ x. Accepted (fold step start x) (drop from (take to m))) (take-take from to m l) (accepted_back start (take from (take to m)) (drop from (take to m)) whole)
 
 -- what holds of every item that a record of a section makes
 module _ (sec : Section) (P : Item → Type 0) (alone : (o : Option BodyKind) (k : Kind) → wanted sec o k ≡ true → (manner_of k).joins ≡ None) (of : (o : Option BodyKind) (k : Kind) (i : Item) → wanted sec o k ≡ true → Made k i → P i) where
-  one_more : (b : Bool) (i : Item) (items : List Item) → (b ≡ true → P i) → AllByRecursion P items → AllByRecursion P (cond b (i ∷ items) items)
-  one_more true i items p h = (p refl, h)
-  one_more false i items p h = h
-
   gained_are : (s : State) (rs : List Record) → Reached s → Accepted s rs → AllByRecursion P (gained sec s rs)
   gained_are s [] x a = tt
   gained_are s (r ∷ rs) x a =
       let p = admitted_kind s r a.0 in
       let is = wanted_is sec s r p.0 p.1.kind_is in
-      one_more (selects sec s r) (item_of s r) (gained sec (step s r) rs)
+      one_more_if P (selects sec s r) (item_of s r) (gained sec (step s r) rs)
       (λ e. let w = sym is ∙ e in of s.opened p.0 (item_of s r) w (made s r p.0 p.1 x (alone s.opened p.0 w)))
       (gained_are (step s r) rs (subst Reached (sym (step_is s r p.0 p.1.kind_is)) (reached_next [] s r p.0 p.1 x)) a.1)
 
@@ -296,11 +279,6 @@ pub record ModuleMade (m : Module) : Type 0 where
   pub functions : AllByRecursion (BodyMade kind.Function) m.functions
   pub entries : AllByRecursion (BodyMade kind.EntryPoint) m.entries
 
-pub last_are : (P : Item → Type 0) (items : List Item) → AllByRecursion P items → AllByRecursion P (option_to_list (last_of items))
-last_are P [] h = tt
-last_are P (i ∷ []) h = h
-last_are P (i ∷ j ∷ items) h = last_are P (j ∷ items) h.1
-
 module _ (m : List Record) (a : Accepted start m) where
   types_are : (from to : ℕ) → AllByRecursion AType (items_between (Numbered table.Types) m from to)
   types_are =
@@ -327,7 +305,7 @@ module _ (m : List Record) (a : Accepted start m) where
       record {
         opener = h;
         arguments = kind_between (Kinds 13 13) kind.FunctionArgument only_argument refl m a from to;
-        result = last_are (Made kind.FunctionResult) (items_between (Kinds 14 14) m from to) (kind_between (Kinds 14 14) kind.FunctionResult only_result refl m a from to);
+        result = last_has (Made kind.FunctionResult) (items_between (Kinds 14 14) m from to) (kind_between (Kinds 14 14) kind.FunctionResult only_result refl m a from to);
         locals = kind_between (Numbered table.LocalVariables) kind.LocalVariable only_local refl m a from to;
         named = kind_between (Kinds 30 30) kind.Named only_named refl m a from to;
         expressions = inner_are from to;
@@ -346,10 +324,10 @@ module _ (m : List Record) (a : Accepted start m) where
         overrides = kind_between (Numbered table.Overrides) kind.Override only_override refl m a 0 to;
         constants = kind_between (Numbered table.Constants) kind.Constant only_constant refl m a 0 to;
         globals = kind_between (Numbered table.GlobalVariables) kind.GlobalVariable only_global refl m a 0 to;
-        special = last_are (Made kind.SpecialTypes) (items_of (Kinds 6 6) m) (kind_between (Kinds 6 6) kind.SpecialTypes only_special refl m a 0 to);
+        special = last_has (Made kind.SpecialTypes) (items_of (Kinds 6 6) m) (kind_between (Kinds 6 6) kind.SpecialTypes only_special refl m a 0 to);
         predeclared = kind_between (Kinds 7 7) kind.Predeclared only_predeclared refl m a 0 to;
         filters = kind_between (Numbered table.Filters) kind.Filter only_filter refl m a 0 to;
-        leaf = last_are (Made kind.Leaf) (items_of (Kinds 9 9) m) (kind_between (Kinds 9 9) kind.Leaf only_leaf refl m a 0 to);
+        leaf = last_has (Made kind.Leaf) (items_of (Kinds 9 9) m) (kind_between (Kinds 9 9) kind.Leaf only_leaf refl m a 0 to);
         expressions = expressions_are 0 to;
         functions = bodies_made kind.Function (items_of (Numbered table.Functions) m) (kind_between (Numbered table.Functions) kind.Function only_function refl m a 0 to);
         entries = bodies_made kind.EntryPoint (items_of (Numbered table.EntryPoints) m) (kind_between (Numbered table.EntryPoints) kind.EntryPoint only_entry refl m a 0 to);

@@ -1,8 +1,8 @@
 -- Which body is open before a record, by places.
-use Rattle.std.proofs.Common.{◌≡◌, ℕ, zero, suc, ◌+◌, ◌-◌, ◌<◌, ◌≤◌, ◌⊎◌, Bool, true, false, cond, not, List, [], ◌∷◌, ◌++◌, length, get_or, take, drop, slice_get, Some, None, Ok, Option, Result, sym, refl, ap, ◌∙◌, subst, inl, inr, arith, length-append, length-drop, get_or-drop}
+use Rattle.std.proofs.Common.{◌≡◌, ℕ, zero, suc, ◌+◌, ◌-◌, ◌<◌, ◌≤◌, ◌⊎◌, true, false, not, List, [], ◌∷◌, ◌++◌, length, get_or, take, drop, slice_get, Some, None, Ok, Option, Result, sym, refl, ap, ◌∙◌, subst, inl, inr, arith, length-append, length-drop, get_or-drop}
 use Rattle.std.specs.List.{AllByRecursion, prefix_len}
-use Rattle.std.proofs.lemmas.Bool.{cases_lt}
-use Rattle.std.proofs.lemmas.List.{take-append-le, take_all, length-take-le}
+use Rattle.std.proofs.lemmas.Bool.{cases_lt, not-true, not-false}
+use Rattle.std.proofs.lemmas.List.{take-take, take-append-le, take_all, length-take-le}
 use Rattle.std.proofs.lemmas.List.Sums.{prefix_len_passes, prefix_len_stops}
 use Rattle.std.proofs.lemmas.Option.{same_Some, slice_get-get_or, get_or_from_slice_get}
 use Rattle.ir.specs.declared.kinds.Kind.{Kind}
@@ -21,7 +21,6 @@ use Rattle.draft.specs.Manner.{manner_of}
 use Rattle.draft.specs.State.{State, start, step, stepped, state, item_of, waiting_after, on_side, open_after, body_after}
 use Rattle.draft.specs.Admitted.{Accepted}
 use Rattle.draft.proofs.Stepping.{Admits, step_is, state_push, throughout}
-use Rattle.laws.proofs.KindBytes.{starts_so}
 use Rattle.items.specs.declared.section.Section.{Section}
 use Rattle.items.specs.declared.section.Section.TheVariants.{Numbered}
 use Rattle.items.specs.Sections.{selects}
@@ -30,12 +29,11 @@ use Rattle.items.specs.Whole.{ends, ending_from}
 use Rattle.items.proofs.Between.{none_between, item_is, split, front}
 use Rattle.items.proofs.Places.{next_at, between_at}
 use Rattle.items.proofs.ByKind.{finishes}
-use Rattle.promises.proofs.Made.{Made, take_front}
+use Rattle.items.proofs.Whole.{ends_is}
+use Rattle.sealing.proofs.Kinded.{one_more_if}
+use Rattle.promises.proofs.Made.{Made}
 
 -- the first that ends
-
-ends_is : (r : Record) (k : Kind) → judged r ≡ Ok k → ends r ≡ finishes k
-ends_is r k e = ap ends (starts_so k r e).1
 
 only_end : (k : Kind) → finishes k ≡ true → k ≡ kind.EndFunction
 only_end kind.EndFunction e = refl
@@ -53,22 +51,14 @@ module _ (m : List Record) (from : ℕ) where
       let at : from + (p - from) ≡ p = omega arith in
       let e = prefix_len_passes (λ r. not (ends r)) (drop from m) (p - from) [] (omega arith) in
       let g = get_or-drop from m (p - from) [] ∙ ap (λ q. get_or m q []) at in
-      undone (ends (get_or m p [])) (sym (ap (λ r. not (ends r)) g) ∙ e)
-    where
-      undone : (b : Bool) → not b ≡ true → b ≡ false
-      undone true e = absurd cc
-      undone false e = refl
+      not-true (ends (get_or m p [])) (sym (ap (λ r. not (ends r)) g) ∙ e)
 
   pub ends_there : (p : ℕ) → p ≡ ending_from m from → p < length m → ends (get_or m p []) ≡ true
   ends_there p is l =
       let n = length-drop from m in
       let e = prefix_len_stops (λ r. not (ends r)) (drop from m) [] (omega arith) in
       let g = get_or-drop from m (prefix_len (λ r. not (ends r)) (drop from m)) [] ∙ ap (λ q. get_or m q []) (sym is) in
-      done (ends (get_or m p [])) (sym (ap (λ r. not (ends r)) g) ∙ e)
-    where
-      done : (b : Bool) → not b ≡ false → b ≡ true
-      done true e = refl
-      done false e = absurd cc
+      not-false (ends (get_or m p [])) (sym (ap (λ r. not (ends r)) g) ∙ e)
 
 -- in an open body, a record that does not end it leaves it open
 stays_open : (k : Kind) (x : BodyKind) (i : Item) (b : Body) → on_side (Some x) (manner_of k).side ≡ true → finishes k ≡ false → (open_after (manner_of k).motion (Some x) ≡ Some x) × ((body_after k (Some x) i b).opener ≡ b.opener)
@@ -211,7 +201,7 @@ module _ (m : List Record) (a : Accepted start m) where
       let size : length f ≡ i.place = length-take-le i.place m (let z = w.0 in omega arith) in
       let waits : length i.taken ≡ length (before i.place).waiting = ap (λ j. length j.taken) w.2 in
       let r = t.same q (omega arith) (omega arith) in
-      let e = ap state (take_front q i.place m u) in
+      let e = ap state (take-take q i.place m u) in
       (ap (λ s. s.opened) (sym e) ∙ r.0, ap (λ s. s.body.opener) (sym e) ∙ r.1)
 
   -- it took no more than came before it
@@ -233,10 +223,6 @@ module _ (m : List Record) (a : Accepted start m) where
             let r = get_or m x [] in
             let e = slice_get-get_or m x [] (omega arith) in
             subst (AllByRecursion (λ i. selects sec (before i.place) i.bytes ≡ true)) (sym (split sec m a x to r e b t))
-            (one (selects sec (before x) r) (item_at m x r) (items_between sec m (x + 1) to) (λ s. s) (selected_between sec d (x + 1) to (omega arith) t))
+            (one_more_if (λ i. selects sec (before i.place) i.bytes ≡ true) (selects sec (before x) r) (item_at m x r) (items_between sec m (x + 1) to) (λ s. s) (selected_between sec d (x + 1) to (omega arith) t))
         | inr b ↦ subst (AllByRecursion (λ i. selects sec (before i.place) i.bytes ≡ true)) (sym (none_between sec m x to b)) tt
       ]
-    where
-      one : (b : Bool) (i : Item) (items : List Item) → (b ≡ true → selects sec (state (take i.place m)) i.bytes ≡ true) → AllByRecursion (λ j. selects sec (state (take j.place m)) j.bytes ≡ true) items → AllByRecursion (λ j. selects sec (state (take j.place m)) j.bytes ≡ true) (cond b (i ∷ items) items)
-      one true i items p h = (p refl, h)
-      one false i items p h = h

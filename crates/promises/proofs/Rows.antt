@@ -1,5 +1,5 @@
 -- The row of a sealed module is a row.
-use Rattle.std.proofs.Common.{◌≡◌, ℕ, zero, suc, ◌<◌, ◌≤◌, Bool, true, false, cond, List, [], ◌∷◌, ◌++◌, map, length, take, slice_get, flat_map, Some, None, refl, sym, ap, ◌∙◌, subst, inl, inr, arith}
+use Rattle.std.proofs.Common.{◌≡◌, ℕ, zero, suc, ◌<◌, ◌≤◌, Bool, true, false, List, [], ◌∷◌, ◌++◌, map, length, take, slice_get, flat_map, Some, None, refl, sym, ap, ◌∙◌, subst, inl, inr, arith, append-nil}
 use Rattle.std.specs.List.{AllByRecursion}
 use Rattle.std.specs.List.Sorted.{IsPermutation, IsNonDecreasingBy}
 use Rattle.std.proofs.ByRecursion.{All-append, All-take}
@@ -32,7 +32,9 @@ use Rattle.draft.specs.State.{start, state}
 use Rattle.draft.specs.Admitted.{Accepted}
 use Rattle.sealing.specs.Seal as seals
 use Rattle.sealing.specs.Seal.{seal_of, types_named, waited_tests, up_to_tests, ty_tests}
-use Rattle.sealing.proofs.FieldTables.{Allowed, fields_allowed}
+use Rattle.sealing.proofs.FieldTables.{Allowed, fields_allowed, named_table}
+use Rattle.sealing.proofs.Kinded.{one_more_if}
+use Rattle.walk.proofs.Places.{got, all_at}
 use Rattle.row.specs.Row.{Has}
 use Rattle.row.proofs.Places.{In, in_from_get, in_from_has, has_from_in, in_left, in_right, in_either, once_from_apart}
 use Rattle.row.proofs.Sorting.{Sorted, sorted, sorted_is_row}
@@ -42,16 +44,12 @@ use Rattle.promises.specs.Rows.{RowItem, IsItemOf, item_at, handle_of, PointsTo,
 use Rattle.promises.proofs.Handles.{same_code, fields_most, own_is}
 use Rattle.promises.proofs.Made.{allowed_of, Made, AType, AnExpression, ModuleMade}
 use Rattle.promises.proofs.Tested.{only, pieces_allowed, pieces_are_allowed}
-use Rattle.promises.proofs.Globals.{type_takes, one_size, expression_takes, one_constant, one_override, constants_tested, overrides_tested}
+use Rattle.promises.proofs.Globals.{type_tables, type_layouts, type_takes, one_size, expression_takes, one_constant, one_override, constants_tested, overrides_tested}
 use Rattle.promises.proofs.Passed.{ModulePassed, sealed_draft}
 use Rattle.promises.proofs.Inside.{module_inside}
 use Rattle.promises.proofs.Among.{in_all, in_flat, in_map, from_map, at_is, in_numbers, above_over, above_under}
 use Rattle.promises.proofs.Listed.{in_items, from_items, apart_items}
 use Rattle.promises.proofs.Ranks.{room_over, room_under, type_type, expression_type, expression_expression, type_expression, type_positive, expression_positive}
-
-named_table : (t : Table) (n : ℕ) → table_of (named t n) ≡ t
-named_table table.Types n = refl
-named_table t n = refl
 
 -- a handle of a table of which the item's own record has one handle at most, and the records that it took none
 own_in : (t other : Table) (k : Kind) (i : Item) → Made k i → fields_most t (layout k) ≤ 1 → pieces_allowed (only other) (manner_of k).takes ≡ true → only other t ≡ false → (n : ℕ) → In (handles i) (named t n) → In (own t i) n
@@ -70,11 +68,6 @@ one_type y = omega arith
 
 -- which tables the handles of a type and of a value are of
 
-abbrev type_tables : Table → Bool
-type_tables table.Types = true
-type_tables table.Overrides = true
-type_tables _ = false
-
 abbrev value_tables : Table → Bool
 value_tables table.Types = true
 value_tables table.Expressions = true
@@ -87,12 +80,8 @@ made_allowed allowed k i w f t =
     (pieces_are_allowed allowed (manner_of k).takes i.taken w.taken t)
 
 type_allowed : (i : Item) → AType i → AllByRecursion (Allowed type_tables) (handles i)
-type_allowed i (y, w) = made_allowed type_tables (kind.Type y) i w (layouts y) (takes y)
+type_allowed i (y, w) = made_allowed type_tables (kind.Type y) i w (type_layouts y) (takes y)
   where
-    layouts : (y : TypeInner) → fields_allowed type_tables (layout (kind.Type y)) ≡ true
-    layouts type.Scalar = refl
-    layouts y = refl
-
     takes : (y : TypeInner) → pieces_allowed type_tables (manner_of (kind.Type y)).takes ≡ true
     takes type.Scalar = refl
     takes y = refl
@@ -101,34 +90,28 @@ type_allowed i (y, w) = made_allowed type_tables (kind.Type y) i w (layouts y) (
 pub own_within : (t : Table) (s : Sizes) (v : Item) → ItemInside s v → AllByRecursion (λ n. n < size_in s t) (own t v)
 own_within t s v a = All-take (λ n. n < size_in s t) 1 (numbers t (handles_of v.bytes)) (within (handles_of v.bytes) (all_left (IsInside s) (handles_of v.bytes) (flat_map handles_of v.taken) a))
   where
-    one : (h : Handle) (b : Bool) (ns : List ℕ) → is_of t h ≡ b → IsInside s h → AllByRecursion (λ n. n < size_in s t) ns → AllByRecursion (λ n. n < size_in s t) (cond b (index_of h ∷ ns) ns)
-    one h true ns e l r = (subst (λ u. index_of h < size_in s u) (same_code (table_of h) t e) l, r)
-    one h false ns e l r = r
-
     within : (hs : List Handle) → AllByRecursion (IsInside s) hs → AllByRecursion (λ n. n < size_in s t) (numbers t hs)
     within [] a = tt
-    within (h ∷ hs) a = one h (is_of t h) (numbers t hs) refl a.0 (within hs a.1)
+    within (h ∷ hs) a = one_more_if (λ n. n < size_in s t) (is_of t h) (index_of h) (numbers t hs) (λ e. subst (λ u. index_of h < size_in s u) (same_code (table_of h) t e) a.0) (within hs a.1)
 
 types_within : (m : Module) (v : Item) → ItemInside (sizes m) v → AllByRecursion (λ n. n < length m.types) (type_of v)
 types_within m v a = own_within table.Types (sizes m) v a
 
 -- what stands behind values
 module _ (m : Module) (v : Item) where
-  value_above_type : (u : ℕ) → In (type_of v) u → type_rank m u < above (flat_map (value_ranks m) (v ∷ []))
+  value_above_type : (u : ℕ) → In (type_of v) u → type_rank m u < above (value_ranks m v)
   value_above_type u h =
-      above_over (flat_map (value_ranks m) (v ∷ [])) (type_rank m u)
-      (in_flat (value_ranks m) (v ∷ []) v (type_rank m u) (inl refl)
-      (in_left (map (type_rank m) (type_of v)) (map (expression_rank m) (init_of v)) (type_rank m u) (in_map (type_rank m) (type_of v) u h)))
+      above_over (value_ranks m v) (type_rank m u)
+      (in_left (map (type_rank m) (type_of v)) (map (expression_rank m) (init_of v)) (type_rank m u) (in_map (type_rank m) (type_of v) u h))
 
-  value_above_init : (e : ℕ) → In (init_of v) e → expression_rank m e < above (flat_map (value_ranks m) (v ∷ []))
+  value_above_init : (e : ℕ) → In (init_of v) e → expression_rank m e < above (value_ranks m v)
   value_above_init e h =
-      above_over (flat_map (value_ranks m) (v ∷ [])) (expression_rank m e)
-      (in_flat (value_ranks m) (v ∷ []) v (expression_rank m e) (inl refl)
-      (in_right (map (type_rank m) (type_of v)) (map (expression_rank m) (init_of v)) (expression_rank m e) (in_map (expression_rank m) (init_of v) e h)))
+      above_over (value_ranks m v) (expression_rank m e)
+      (in_right (map (type_rank m) (type_of v)) (map (expression_rank m) (init_of v)) (expression_rank m e) (in_map (expression_rank m) (init_of v) e h))
 
-  value_below : (r : ℕ) → 0 < r → ((u : ℕ) → In (type_of v) u → suc (type_rank m u) < r) → ((e : ℕ) → In (init_of v) e → suc (expression_rank m e) < r) → above (flat_map (value_ranks m) (v ∷ [])) < r
+  value_below : (r : ℕ) → 0 < r → ((u : ℕ) → In (type_of v) u → suc (type_rank m u) < r) → ((e : ℕ) → In (init_of v) e → suc (expression_rank m e) < r) → above (value_ranks m v) < r
   value_below zero z ty init = absurd (omega arith)
-  value_below (suc r) z ty init = let l = above_under (flat_map (value_ranks m) (v ∷ [])) r each in omega arith
+  value_below (suc r) z ty init = let l = above_under (value_ranks m v) r in_value in omega arith
     where
       in_value : (n : ℕ) → In (value_ranks m v) n → n < r
       in_value n g =
@@ -137,26 +120,13 @@ module _ (m : Module) (v : Item) where
             | inr a ↦ let q = from_map (expression_rank m) (init_of v) n a in let l = init q.0 q.1 in let e = q.2 in omega arith
           ]
 
-      each : (n : ℕ) → In (flat_map (value_ranks m) (v ∷ [])) n → n < r
-      each n h = elim (in_either (value_ranks m v) [] n h) [ inl g ↦ in_value n g | inr g ↦ absurd g ]
-
-got : {X : Type 0} (xs : List X) (n : ℕ) → n < length xs → (x : X) × (slice_get xs n ≡ Some x)
-got [] n l = absurd (omega arith)
-got (x ∷ xs) zero l = (x, refl)
-got (x ∷ xs) (suc n) l = got xs n (omega arith)
+-- the rank of the override or of the constant with a number
+pub value_rank_is : (m : Module) (values : List Item) (n : ℕ) (v : Item) → slice_get values n ≡ Some v → above (flat_map (value_ranks m) (at values n)) ≡ above (value_ranks m v)
+value_rank_is m values n v e = ap (λ l. above (flat_map (value_ranks m) l)) (at_is values n v e) ∙ ap above (append-nil (value_ranks m v))
 
 module _ (m : Module) (w : ModuleMade m) (p : ModulePassed m) where
-  made_at : {X : Type 0} (P : X → Type 0) (xs : List X) (n : ℕ) (x : X) → AllByRecursion P xs → slice_get xs n ≡ Some x → P x
-  made_at P xs n x a s = in_all P xs x a (in_from_get xs n x s)
-
   edge : (x y : RowItem) → PointsTo m x y → (i : Item) × (item_at m x ≡ Some i) × In (handles i) (handle_of y)
   edge x y q = (q.0, q.1, in_from_has (handles q.0) (handle_of y) q.2)
-
-  override_rank_is : (o : ℕ) (v : Item) → slice_get m.overrides o ≡ Some v → rank m (RowItem.override o) ≡ above (flat_map (value_ranks m) (v ∷ []))
-  override_rank_is o v e = ap (λ l. above (flat_map (value_ranks m) l)) (at_is m.overrides o v e)
-
-  constant_rank_is : (c : ℕ) (v : Item) → slice_get m.constants c ≡ Some v → rank m (RowItem.constant c) ≡ above (flat_map (value_ranks m) (v ∷ []))
-  constant_rank_is c v e = ap (λ l. above (flat_map (value_ranks m) l)) (at_is m.constants c v e)
 
   -- what types point to
 
@@ -171,7 +141,7 @@ module _ (m : Module) (w : ModuleMade m) (p : ModulePassed m) where
 
   size_of : (t o : ℕ) (i : Item) → slice_get m.types t ≡ Some i → In (handles i) (named table.Overrides o) → In (pending_of i) o
   size_of t o i s h =
-      let a = made_at AType m.types t i w.types s in
+      let a = all_at AType m.types t i w.types s in
       own_in table.Overrides table.Types (kind.Type a.0) i a.1 (one_size a.0) (type_takes a.0) refl o h
 
   sized_earlier : (t o u : ℕ) (i v : Item) → slice_get m.types t ≡ Some i → In (pending_of i) o → slice_get m.overrides o ≡ Some v → In (type_of v) u → u < t
@@ -204,19 +174,19 @@ module _ (m : Module) (w : ModuleMade m) (p : ModulePassed m) where
 
   own_of : (t : Table) → ((y : Expression) → fields_most t (layout (kind.Expression y)) ≤ 1) → only table.Expressions t ≡ false → (x n : ℕ) (i : Item) → slice_get m.expressions x ≡ Some i → In (handles i) (named t n) → In (own t i) n
   own_of t few differ x n i s h =
-      let a = made_at AnExpression m.expressions x i w.expressions s in
+      let a = all_at AnExpression m.expressions x i w.expressions s in
       own_in t table.Expressions (kind.Expression a.0) i a.1 (few a.0) (expression_takes a.0) differ n h
 
   constant_init : (x c e : ℕ) (i v : Item) → slice_get m.expressions x ≡ Some i → In (own table.Constants i) c → slice_get m.constants c ≡ Some v → In (init_of v) e → e < x
   constant_init x c e i v s h g j =
-      let a = made_at AnExpression m.expressions x i w.expressions s in
+      let a = all_at AnExpression m.expressions x i w.expressions s in
       let t = in_all (λ z. AllHold (constant_tests m x i.place z)) (own table.Constants i) c (constants_tested m x i a.0 a.1.kind_is (hold_numbered (const_expression_tests m) m.expressions p.consts x i s)) h in
       let b = in_all (λ z. AllHold (value_tests x i.place z)) (at m.constants c) v (hold_each (value_tests x i.place) (at m.constants c) t.1) (subst (λ l. In l v) (sym (at_is m.constants c v g)) (inl refl)) in
       in_all (λ z. z < x) (init_of v) e (below_from_hold rule.Earlier table.Expressions x i.place (init_of v) b) j
 
   override_init : (x o e : ℕ) (i v : Item) → slice_get m.expressions x ≡ Some i → In (own table.Overrides i) o → slice_get m.overrides o ≡ Some v → In (init_of v) e → e < x
   override_init x o e i v s h g j =
-      let a = made_at AnExpression m.expressions x i w.expressions s in
+      let a = all_at AnExpression m.expressions x i w.expressions s in
       let t = in_all (λ z. AllHold (override_tests m x i.place z)) (own table.Overrides i) o (overrides_tested m x i a.0 a.1.kind_is (hold_numbered (const_expression_tests m) m.expressions p.consts x i s)) h in
       let b = in_all (λ z. AllHold (value_tests x i.place z)) (at m.overrides o) v (hold_each (value_tests x i.place) (at m.overrides o) t.1) (subst (λ l. In l v) (sym (at_is m.overrides o v g)) (inl refl)) in
       in_all (λ z. z < x) (init_of v) e (below_from_hold rule.Earlier table.Expressions x i.place (init_of v) b) j
@@ -266,7 +236,7 @@ module _ (m : Module) (w : ModuleMade m) (p : ModulePassed m) where
   inside = module_inside m w p
 
   handle_inside : (items : List Item) (n : ℕ) (i : Item) (y : RowItem) → ItemsInside (sizes m) items → slice_get items n ≡ Some i → In (handles i) (handle_of y) → IsInside (sizes m) (handle_of y)
-  handle_inside items n i y a s h = in_all (IsInside (sizes m)) (handles i) (handle_of y) (made_at (λ j. AllByRecursion (IsInside (sizes m)) (handles j)) items n i a s) h
+  handle_inside items n i y a s h = in_all (IsInside (sizes m)) (handles i) (handle_of y) (all_at (ItemInside (sizes m)) items n i a s) h
 
   there : (y : RowItem) → IsInside (sizes m) (handle_of y) → IsItemOf m y
   there (RowItem.type t) l = l
@@ -282,53 +252,47 @@ module _ (m : Module) (w : ModuleMade m) (p : ModulePassed m) where
 
   -- a type, an override and a constant have no other handles
   type_has : (t : ℕ) (i : Item) → slice_get m.types t ≡ Some i → (y : RowItem) → In (handles i) (handle_of y) → type_tables (table_of (handle_of y)) ≡ true
-  type_has t i s y h = in_all (Allowed type_tables) (handles i) (handle_of y) (type_allowed i (made_at AType m.types t i w.types s)) h
+  type_has t i s y h = in_all (Allowed type_tables) (handles i) (handle_of y) (type_allowed i (all_at AType m.types t i w.types s)) h
 
   override_has : (o : ℕ) (v : Item) → slice_get m.overrides o ≡ Some v → (y : RowItem) → In (handles v) (handle_of y) → value_tables (table_of (handle_of y)) ≡ true
-  override_has o v s y h = let a = made_at (Made kind.Override) m.overrides o v w.overrides s in in_all (Allowed value_tables) (handles v) (handle_of y) (made_allowed value_tables kind.Override v a refl refl) h
+  override_has o v s y h = let a = all_at (Made kind.Override) m.overrides o v w.overrides s in in_all (Allowed value_tables) (handles v) (handle_of y) (made_allowed value_tables kind.Override v a refl refl) h
 
   constant_has : (c : ℕ) (v : Item) → slice_get m.constants c ≡ Some v → (y : RowItem) → In (handles v) (handle_of y) → value_tables (table_of (handle_of y)) ≡ true
-  constant_has c v s y h = let a = made_at (Made kind.Constant) m.constants c v w.constants s in in_all (Allowed value_tables) (handles v) (handle_of y) (made_allowed value_tables kind.Constant v a refl refl) h
+  constant_has c v s y h = let a = all_at (Made kind.Constant) m.constants c v w.constants s in in_all (Allowed value_tables) (handles v) (handle_of y) (made_allowed value_tables kind.Constant v a refl refl) h
 
   type_over_override : (t o : ℕ) → PointsTo m (RowItem.type t) (RowItem.override o) → rank m (RowItem.override o) < rank m (RowItem.type t)
   type_over_override t o q =
       let e = edge (RowItem.type t) (RowItem.override o) q in
       let v = got m.overrides o (stays (RowItem.type t) (RowItem.override o) q) in
       let size = size_of t o e.0 e.1 e.2 in
-      subst (λ r. r < type_rank m t) (sym (override_rank_is o v.0 v.1))
+      subst (λ r. r < type_rank m t) (sym (value_rank_is m m.overrides o v.0 v.1))
       (value_below m v.0 (type_rank m t) (type_positive m t)
       (λ u h. type_type m u t (sized_earlier t o u e.0 v.0 e.1 size v.1 h))
       (λ x h. expression_type m x t (room_over m t t x e.0 (omega arith) e.1 (waited o x e.0 v.0 size v.1 h))))
+
+  -- the type of an override or a constant is inside
+  type_of_value : (values : List Item) (n u : ℕ) (v : Item) → ItemsInside (sizes m) values → slice_get values n ≡ Some v → In (type_of v) u → u < length m.types
+  type_of_value values n u v a s h = in_all (λ t. t < length m.types) (type_of v) u (types_within m v (all_at (ItemInside (sizes m)) values n v a s)) h
 
   expression_over_override : (x o : ℕ) → PointsTo m (RowItem.expression x) (RowItem.override o) → rank m (RowItem.override o) < rank m (RowItem.expression x)
   expression_over_override x o q =
       let e = edge (RowItem.expression x) (RowItem.override o) q in
       let v = got m.overrides o (stays (RowItem.expression x) (RowItem.override o) q) in
       let mine = own_of table.Overrides one_override refl x o e.0 e.1 e.2 in
-      subst (λ r. r < expression_rank m x) (sym (override_rank_is o v.0 v.1))
+      subst (λ r. r < expression_rank m x) (sym (value_rank_is m m.overrides o v.0 v.1))
       (value_below m v.0 (expression_rank m x) (expression_positive m x)
-      (λ u h. type_expression m u x (type_of_override o u v.0 v.1 h) (room_before x u e.0 e.1 (named_by_override e.0 v.0 o u mine v.1 h)))
+      (λ u h. type_expression m u x (type_of_value m.overrides o u v.0 inside.overrides v.1 h) (room_before x u e.0 e.1 (named_by_override e.0 v.0 o u mine v.1 h)))
       (λ y h. expression_expression m y x (override_init x o y e.0 v.0 e.1 mine v.1 h)))
-    where
-      type_of_override : (o u : ℕ) (v : Item) → slice_get m.overrides o ≡ Some v → In (type_of v) u → u < length m.types
-      type_of_override o u v s h =
-          in_all (λ n. n < length m.types) (type_of v) u
-          (types_within m v (made_at (λ j. AllByRecursion (IsInside (sizes m)) (handles j)) m.overrides o v inside.overrides s)) h
 
   expression_over_constant : (x c : ℕ) → PointsTo m (RowItem.expression x) (RowItem.constant c) → rank m (RowItem.constant c) < rank m (RowItem.expression x)
   expression_over_constant x c q =
       let e = edge (RowItem.expression x) (RowItem.constant c) q in
       let v = got m.constants c (stays (RowItem.expression x) (RowItem.constant c) q) in
       let mine = own_of table.Constants one_constant refl x c e.0 e.1 e.2 in
-      subst (λ r. r < expression_rank m x) (sym (constant_rank_is c v.0 v.1))
+      subst (λ r. r < expression_rank m x) (sym (value_rank_is m m.constants c v.0 v.1))
       (value_below m v.0 (expression_rank m x) (expression_positive m x)
-      (λ u h. type_expression m u x (type_of_constant c u v.0 v.1 h) (room_before x u e.0 e.1 (named_by_constant e.0 v.0 c u mine v.1 h)))
+      (λ u h. type_expression m u x (type_of_value m.constants c u v.0 inside.constants v.1 h) (room_before x u e.0 e.1 (named_by_constant e.0 v.0 c u mine v.1 h)))
       (λ y h. expression_expression m y x (constant_init x c y e.0 v.0 e.1 mine v.1 h)))
-    where
-      type_of_constant : (c u : ℕ) (v : Item) → slice_get m.constants c ≡ Some v → In (type_of v) u → u < length m.types
-      type_of_constant c u v s h =
-          in_all (λ n. n < length m.types) (type_of v) u
-          (types_within m v (made_at (λ j. AllByRecursion (IsInside (sizes m)) (handles j)) m.constants c v inside.constants s)) h
 
   falls : (x y : RowItem) → PointsTo m x y → rank m y < rank m x
   falls (RowItem.type t) (RowItem.type u) q = let e = edge (RowItem.type t) (RowItem.type u) q in let l = type_type m u t (earlier_type t u e.0 e.1 e.2) in omega arith
@@ -337,24 +301,24 @@ module _ (m : Module) (w : ModuleMade m) (p : ModulePassed m) where
   falls (RowItem.type t) (RowItem.expression x) q = let e = edge (RowItem.type t) (RowItem.expression x) q in let a = type_has t e.0 e.1 (RowItem.expression x) e.2 in absurd cc
   falls (RowItem.override o) (RowItem.type u) q =
       let e = edge (RowItem.override o) (RowItem.type u) q in
-      let l = value_above_type m e.0 u (value_type kind.Override e.0 (made_at (Made kind.Override) m.overrides o e.0 w.overrides e.1) (omega arith) refl u e.2) in
-      subst (λ r. type_rank m u < r) (sym (override_rank_is o e.0 e.1)) l
+      let l = value_above_type m e.0 u (value_type kind.Override e.0 (all_at (Made kind.Override) m.overrides o e.0 w.overrides e.1) (omega arith) refl u e.2) in
+      subst (λ r. type_rank m u < r) (sym (value_rank_is m m.overrides o e.0 e.1)) l
   falls (RowItem.override o) (RowItem.override z) q = let e = edge (RowItem.override o) (RowItem.override z) q in let a = override_has o e.0 e.1 (RowItem.override z) e.2 in absurd cc
   falls (RowItem.override o) (RowItem.constant c) q = let e = edge (RowItem.override o) (RowItem.constant c) q in let a = override_has o e.0 e.1 (RowItem.constant c) e.2 in absurd cc
   falls (RowItem.override o) (RowItem.expression x) q =
       let e = edge (RowItem.override o) (RowItem.expression x) q in
-      let l = value_above_init m e.0 x (value_init kind.Override e.0 (made_at (Made kind.Override) m.overrides o e.0 w.overrides e.1) (omega arith) refl x e.2) in
-      subst (λ r. expression_rank m x < r) (sym (override_rank_is o e.0 e.1)) l
+      let l = value_above_init m e.0 x (value_init kind.Override e.0 (all_at (Made kind.Override) m.overrides o e.0 w.overrides e.1) (omega arith) refl x e.2) in
+      subst (λ r. expression_rank m x < r) (sym (value_rank_is m m.overrides o e.0 e.1)) l
   falls (RowItem.constant c) (RowItem.type u) q =
       let e = edge (RowItem.constant c) (RowItem.type u) q in
-      let l = value_above_type m e.0 u (value_type kind.Constant e.0 (made_at (Made kind.Constant) m.constants c e.0 w.constants e.1) (omega arith) refl u e.2) in
-      subst (λ r. type_rank m u < r) (sym (constant_rank_is c e.0 e.1)) l
+      let l = value_above_type m e.0 u (value_type kind.Constant e.0 (all_at (Made kind.Constant) m.constants c e.0 w.constants e.1) (omega arith) refl u e.2) in
+      subst (λ r. type_rank m u < r) (sym (value_rank_is m m.constants c e.0 e.1)) l
   falls (RowItem.constant c) (RowItem.override z) q = let e = edge (RowItem.constant c) (RowItem.override z) q in let a = constant_has c e.0 e.1 (RowItem.override z) e.2 in absurd cc
   falls (RowItem.constant c) (RowItem.constant d) q = let e = edge (RowItem.constant c) (RowItem.constant d) q in let a = constant_has c e.0 e.1 (RowItem.constant d) e.2 in absurd cc
   falls (RowItem.constant c) (RowItem.expression x) q =
       let e = edge (RowItem.constant c) (RowItem.expression x) q in
-      let l = value_above_init m e.0 x (value_init kind.Constant e.0 (made_at (Made kind.Constant) m.constants c e.0 w.constants e.1) (omega arith) refl x e.2) in
-      subst (λ r. expression_rank m x < r) (sym (constant_rank_is c e.0 e.1)) l
+      let l = value_above_init m e.0 x (value_init kind.Constant e.0 (all_at (Made kind.Constant) m.constants c e.0 w.constants e.1) (omega arith) refl x e.2) in
+      subst (λ r. expression_rank m x < r) (sym (value_rank_is m m.constants c e.0 e.1)) l
   falls (RowItem.expression x) (RowItem.type u) q =
       let e = edge (RowItem.expression x) (RowItem.type u) q in
       let i : u < length m.types = stays (RowItem.expression x) (RowItem.type u) q in

@@ -82,8 +82,8 @@ rank m (RowItem.override o) = above (flat_map (value_ranks m) (at m.overrides o)
 rank m (RowItem.constant c) = above (flat_map (value_ranks m) (at m.constants c))
 rank m (RowItem.expression e) = expression_rank m e
 
--- so many items of a table, from a number on
-abbrev pub counted : (ℕ → RowItem) → ℕ → ℕ → List RowItem
+-- what f makes of so many numbers, from a number on
+abbrev pub counted : {X : Type 0} → (ℕ → X) → ℕ → ℕ → List X
 counted f n zero = []
 counted f n (suc k) = f n ∷ counted f (suc n) k
 

@@ -22,6 +22,7 @@ use Rattle.sealing.proofs.Once.{looked_at_once}
 use Rattle.sealing.proofs.Promised.{exactly}
 use Rattle.sealing.proofs.Faults.{no_other_faults}
 use Rattle.sealing.proofs.Kinded.{kinded}
+use Rattle.promises.proofs.Passed.{ended}
 use Rattle.seal.specs.Sealed.{Laws}
 
 pub laws_hold : (m : List Record) → Accepted start m → Laws (state m).built
@@ -63,14 +64,10 @@ module _ (m : List Record) (a : Accepted start m) (done : finished (state m) ≡
   pub tests_same : first (seal_once_tests (module_of m)) ≡ first (seal_tests (state m).built)
   tests_same = looked_at_once (module_of m) ∙ ap (λ n. first (seal_tests n)) module_same
 
--- what is sealed is finished
-done_when : (b : Bool) (o : Option Rejection) → cond b o (Some Unfinished) ≡ None → b ≡ true
-done_when true o e = refl
-done_when false o e = absurd cc
-
+-- what sealing accepts is finished, and its module is the one by places
 module _ (m : List Record) (a : Accepted start m) (e : seal_of (state m) ≡ None) where
   pub done : finished (state m) ≡ true
-  done = done_when (finished (state m)) _ e
+  done = (ended (finished (state m)) (seal (state m).built) e).0
 
   pub built_is : module_of m ≡ (state m).built
   built_is = module_same m a done

@@ -1,8 +1,9 @@
 -- The check and sealing answer no other faults: test by test, by what makes the tests.
-use Rattle.std.proofs.Common.{◌≡◌, ℕ, suc, Bool, true, false, cond, ◌||◌, List, [], ◌∷◌, ◌++◌, map, filter, take, flat_map, Some, None, Option, refl, subst}
+use Rattle.std.proofs.Common.{◌≡◌, ℕ, suc, Bool, true, false, cond, ◌||◌, List, [], ◌∷◌, map, filter, take, flat_map, Some, None, Option, refl, subst}
 use Rattle.std.specs.List.{AllByRecursion}
 use Rattle.std.specs.Option.{option_to_list}
 use Rattle.std.proofs.ByRecursion.{All-append, All-weaker}
+use Rattle.std.proofs.lemmas.Bool.{or_left}
 use Rattle.std.proofs.lemmas.Option.{same_Some}
 use Rattle.ir.specs.declared.handle.Table.{Table}
 use Rattle.ir.specs.declared.handle.Table.TheVariants as table
@@ -31,16 +32,13 @@ module _ (P : Test → Type 0) where
   abbrev All : List Test → Type 0
   All ts = AllByRecursion P ts
 
-  both : (a b : List Test) → All a → All b → All (a ++ b)
-  both a b h k = All-append P a b h k
-
   each : {X : Type 0} (f : X → List Test) → ((x : X) → All (f x)) → (xs : List X) → All (flat_map f xs)
   each f h [] = tt
-  each f h (x ∷ xs) = both (f x) (flat_map f xs) (h x) (each f h xs)
+  each f h (x ∷ xs) = All-append P (f x) (flat_map f xs) (h x) (each f h xs)
 
   counted : {X : Type 0} (f : ℕ → X → List Test) → ((n : ℕ) (x : X) → All (f n x)) → (n : ℕ) (xs : List X) → All (numbered_from f n xs)
   counted f h n [] = tt
-  counted f h n (x ∷ xs) = both (f n x) (numbered_from f (suc n) xs) (h n x) (counted f h (suc n) xs)
+  counted f h n (x ∷ xs) = All-append P (f n x) (numbered_from f (suc n) xs) (h n x) (counted f h (suc n) xs)
 
   mapped : {X : Type 0} (f : X → Test) → ((x : X) → P (f x)) → (xs : List X) → All (map f xs)
   mapped f h [] = tt
@@ -91,20 +89,20 @@ module _ (m : Module) where
       (either Checked (is Compose i) _ [] (earlier_checked table.Expressions refl x i.place (numbers table.Expressions (handles i))) tt))
 
   sized_checked : (t place x : ℕ) (i : Item) → AllByRecursion Checked (sized_tests m t place x i)
-  sized_checked t place x i = both Checked (const_expression_tests m x i) _ (const_checked x i) (earlier_checked table.Types refl t place (returned i))
+  sized_checked t place x i = All-append Checked (const_expression_tests m x i) _ (const_checked x i) (earlier_checked table.Types refl t place (returned i))
 
   init_checked : (t place e : ℕ) → AllByRecursion Checked (init_tests m t place e)
   init_checked t place e = (refl, counted Checked (sized_tests m t place) (sized_checked t place) 0 (take (suc e) m.expressions))
 
   size_checked : (t place : ℕ) (v : Item) → AllByRecursion Checked (size_tests m t place v)
-  size_checked t place v = both Checked _ (flat_map (init_tests m t place) (init_of v)) (earlier_checked table.Types refl t place _) (each Checked (init_tests m t place) (init_checked t place) (init_of v))
+  size_checked t place v = All-append Checked _ (flat_map (init_tests m t place) (init_of v)) (earlier_checked table.Types refl t place _) (each Checked (init_tests m t place) (init_checked t place) (init_of v))
 
   pending_checked : (t place o : ℕ) → AllByRecursion Checked (pending_tests m t place o)
   pending_checked t place o = (refl, each Checked (size_tests m t place) (size_checked t place) (at m.overrides o))
 
   type_checked : (t : ℕ) (i : Item) → AllByRecursion Checked (type_tests m t i)
   type_checked t i =
-      both Checked (base_tests t i) (flat_map (pending_tests m t i.place) (pending_of i)) (earlier_checked table.Types refl t i.place (numbers table.Types (handles i)))
+      All-append Checked (base_tests t i) (flat_map (pending_tests m t i.place) (pending_of i)) (earlier_checked table.Types refl t i.place (numbers table.Types (handles i)))
       (each Checked (pending_tests m t i.place) (pending_checked t i.place) (pending_of i))
 
 module _ (s : Sizes) where
@@ -116,7 +114,7 @@ module _ (s : Sizes) where
 
   expression_checked : (place : ℕ) (f : Option ℕ) (n : ℕ) (i : Item) → AllByRecursion Checked (expression_tests s place f n i)
   expression_checked place f n i =
-      both Checked (flat_map (named_tests s place f i) (handles_of i.bytes)) (operand_tests n i) (each Checked (named_tests s place f i) (named_checked place f i) (handles_of i.bytes))
+      All-append Checked (flat_map (named_tests s place f i) (handles_of i.bytes)) (operand_tests n i) (each Checked (named_tests s place f i) (named_checked place f i) (handles_of i.bytes))
       (earlier_checked table.Expressions refl n i.place (numbers table.Expressions (handles i)))
 
   statement_checked : (i : Item) → AllByRecursion Checked (statement_tests s i)
@@ -126,42 +124,38 @@ body_checked : (s : Sizes) (f : Option ℕ) (b : Body) → AllByRecursion Checke
 body_checked s f b =
     let in_body = sizes_in s b in
     let owned : (xs : List Item) → AllByRecursion Checked (flat_map (own_inside rule.Inside in_body) xs) = each Checked (own_inside rule.Inside in_body) (own_checked in_body) in
-    both Checked _ _ (owned b.arguments)
-    (both Checked _ _ (owned (option_to_list b.result))
-    (both Checked _ _ (owned b.locals)
-    (both Checked _ _ (owned b.named)
-    (both Checked _ _ (counted Checked (expression_tests in_body b.opener.place f) (expression_checked in_body b.opener.place f) 0 b.expressions)
-    (both Checked _ _ (each Checked (statement_tests in_body) (statement_checked in_body) b.statements)
+    All-append Checked _ _ (owned b.arguments)
+    (All-append Checked _ _ (owned (option_to_list b.result))
+    (All-append Checked _ _ (owned b.locals)
+    (All-append Checked _ _ (owned b.named)
+    (All-append Checked _ _ (counted Checked (expression_tests in_body b.opener.place f) (expression_checked in_body b.opener.place f) 0 b.expressions)
+    (All-append Checked _ _ (each Checked (statement_tests in_body) (statement_checked in_body) b.statements)
     (all_checked s b.opener.place (body_leaf b.opener)))))))
 
 entry_checked : (s : Sizes) (b : Body) → AllByRecursion Checked (entry_tests s b)
-entry_checked s b = both Checked (body_tests s None b) _ (body_checked s None b) (all_checked s b.opener.place (entry_handles b.opener))
+entry_checked s b = All-append Checked (body_tests s None b) _ (body_checked s None b) (all_checked s b.opener.place (entry_handles b.opener))
 
 module _ (m : Module) where
   later_checked : AllByRecursion Checked (later_tests m)
   later_checked =
       let owned : (xs : List Item) → AllByRecursion Checked (flat_map (own_inside rule.Inside (sizes m)) xs) = each Checked (own_inside rule.Inside (sizes m)) (own_checked (sizes m)) in
-      both Checked _ _ (owned m.constants)
-      (both Checked _ _ (owned m.overrides)
-      (both Checked _ _ (owned m.globals)
-      (both Checked _ _ (each Checked (entry_tests (sizes m)) (entry_checked (sizes m)) m.entries)
-      (both Checked _ _ (counted Checked (λ f. body_tests (sizes m) (Some f)) (λ f. body_checked (sizes m) (Some f)) 0 m.functions)
-      (both Checked _ _ (each Checked (special_tests (sizes m)) (λ i. all_checked (sizes m) i.place (fields (0 ∷ 1 ∷ 2 ∷ []) i)) (option_to_list m.special))
-      (both Checked _ _ (counted Checked filter_tests (λ n i. earlier_checked table.Filters refl n i.place (numbers table.Filters (handles i))) 0 m.filters)
+      All-append Checked _ _ (owned m.constants)
+      (All-append Checked _ _ (owned m.overrides)
+      (All-append Checked _ _ (owned m.globals)
+      (All-append Checked _ _ (each Checked (entry_tests (sizes m)) (entry_checked (sizes m)) m.entries)
+      (All-append Checked _ _ (counted Checked (λ f. body_tests (sizes m) (Some f)) (λ f. body_checked (sizes m) (Some f)) 0 m.functions)
+      (All-append Checked _ _ (each Checked (special_tests (sizes m)) (λ i. all_checked (sizes m) i.place (fields (0 ∷ 1 ∷ 2 ∷ []) i)) (option_to_list m.special))
+      (All-append Checked _ _ (counted Checked filter_tests (λ n i. earlier_checked table.Filters refl n i.place (numbers table.Filters (handles i))) 0 m.filters)
       (owned (option_to_list m.leaf))))))))
 
   check_checked : AllByRecursion Checked (check_tests m)
   check_checked =
-      both Checked _ _ (counted Checked (type_tests m) (type_checked m) 0 m.types)
-      (both Checked _ _ (counted Checked (const_expression_tests m) (const_checked m) 0 m.expressions) later_checked)
+      All-append Checked _ _ (counted Checked (type_tests m) (type_checked m) 0 m.types)
+      (All-append Checked _ _ (counted Checked (const_expression_tests m) (const_checked m) 0 m.expressions) later_checked)
 
 -- of the check or of sealing
 abbrev Known : Test → Type 0
 Known t = (of_check t.fault.rule t.fault.kind || of_seal t.fault.rule t.fault.kind) ≡ true
-
-or_left : (a b : Bool) → a ≡ true → (a || b) ≡ true
-or_left true b e = refl
-or_left false b e = absurd cc
 
 -- the tables whose handles only sealing finds not inside
 abbrev sealed_table : Table → Bool
@@ -184,10 +178,10 @@ ty_known s i = inside_known s i.place (seals.ty_of i) (types_only (handles_of i.
 
 module _ (s : Sizes) where
   global_known : (x : ℕ) (i : Item) → AllByRecursion Known (seals.global_tests s x i)
-  global_known x i = (refl, both Known _ (seals.ty_tests s i) (earlier_known table.Expressions refl x i.place (numbers table.Expressions (handles i))) (ty_known s i))
+  global_known x i = (refl, All-append Known _ (seals.ty_tests s i) (earlier_known table.Expressions refl x i.place (numbers table.Expressions (handles i))) (ty_known s i))
 
   inner_known : (count : ℕ) (i : Item) → AllByRecursion Known (seals.inner_tests s count i)
-  inner_known count i = both Known (seals.ty_tests s i) (seals.argument_tests count i) (ty_known s i) (either Known (is seals.FunctionArgument i) _ [] (refl, tt) tt)
+  inner_known count i = All-append Known (seals.ty_tests s i) (seals.argument_tests count i) (ty_known s i) (either Known (is seals.FunctionArgument i) _ [] (refl, tt) tt)
 
   -- the fields of a record of a kind: special types, entry points, ImageAtomic
   special_known : (i : Item) → is 6 i ≡ true → AllByRecursion Known (seals.special_tests s i)
@@ -219,7 +213,7 @@ pub record Kinded (m : Module) : Type 0 where
 -- the tests of items that all have a property
 each_of : {X : Type 0} (Q : X → Type 0) (f : X → List Test) → ((x : X) → Q x → AllByRecursion Known (f x)) → (xs : List X) → AllByRecursion Q xs → AllByRecursion Known (flat_map f xs)
 each_of Q f h [] q = tt
-each_of Q f h (x ∷ xs) q = both Known (f x) (flat_map f xs) (h x q.0) (each_of Q f h xs q.1)
+each_of Q f h (x ∷ xs) q = All-append Known (f x) (flat_map f xs) (h x q.0) (each_of Q f h xs q.1)
 
 module _ (m : Module) (k : Kinded m) where
   compared_known : (b : Body) → AllByRecursion Known (seals.compared_tests (sizes m) b)
@@ -235,20 +229,20 @@ module _ (m : Module) (k : Kinded m) where
 
   seal_known : AllByRecursion Known (seal_tests m)
   seal_known =
-      both Known _ _ (counted Known (seals.global_tests (sizes m)) (global_known (sizes m)) 0 m.expressions)
-      (both Known _ _ (counted Known (seals.pending_tests m) pending_known 0 m.types)
-      (both Known _ _ (each Known (seals.body_tests (sizes m)) body_known m.functions)
-      (both Known _ _ (each Known (seals.body_tests (sizes m)) body_known m.entries)
-      (both Known _ _ (counted Known seals.call_tests (λ f b. earlier_known table.Functions refl f b.opener.place (seals.calls b)) 0 m.functions)
-      (both Known _ _ (each_of (λ i. is 6 i ≡ true) (seals.special_tests (sizes m)) (special_known (sizes m)) (option_to_list m.special) k.special)
-      (both Known _ _ (each_of (λ i. is 7 i ≡ true) (own_inside rule.SealedInside (sizes m)) (predeclared_known (sizes m)) m.predeclared k.predeclared)
-      (both Known _ _ (each_of (λ b. is 12 b.opener ≡ true) (seals.payload_tests (sizes m)) (payload_known (sizes m)) m.entries k.entries)
-      (both Known _ _ (each Known (seals.compared_tests (sizes m)) compared_known m.functions)
+      All-append Known _ _ (counted Known (seals.global_tests (sizes m)) (global_known (sizes m)) 0 m.expressions)
+      (All-append Known _ _ (counted Known (seals.pending_tests m) pending_known 0 m.types)
+      (All-append Known _ _ (each Known (seals.body_tests (sizes m)) body_known m.functions)
+      (All-append Known _ _ (each Known (seals.body_tests (sizes m)) body_known m.entries)
+      (All-append Known _ _ (counted Known seals.call_tests (λ f b. earlier_known table.Functions refl f b.opener.place (seals.calls b)) 0 m.functions)
+      (All-append Known _ _ (each_of (λ i. is 6 i ≡ true) (seals.special_tests (sizes m)) (special_known (sizes m)) (option_to_list m.special) k.special)
+      (All-append Known _ _ (each_of (λ i. is 7 i ≡ true) (own_inside rule.SealedInside (sizes m)) (predeclared_known (sizes m)) m.predeclared k.predeclared)
+      (All-append Known _ _ (each_of (λ b. is 12 b.opener ≡ true) (seals.payload_tests (sizes m)) (payload_known (sizes m)) m.entries k.entries)
+      (All-append Known _ _ (each Known (seals.compared_tests (sizes m)) compared_known m.functions)
       (each Known (seals.compared_tests (sizes m)) compared_known m.entries)))))))))
 
   all_known : AllByRecursion Known (all_tests m)
   all_known =
-      both Known (check_tests m) (seal_tests m)
+      All-append Known (check_tests m) (seal_tests m)
       (All-weaker Checked Known (λ t h. or_left (of_check t.fault.rule t.fault.kind) (of_seal t.fault.rule t.fault.kind) h) (check_tests m) (check_checked m))
       seal_known
 

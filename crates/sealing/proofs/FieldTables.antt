@@ -1,5 +1,5 @@
 -- Of which tables the handles of records of some kinds are.
-use Rattle.std.proofs.Common.{◌≡◌, ℕ, zero, suc, Bool, true, false, cond, ◌&&◌, ◌==◌, List, [], ◌∷◌, length, drop, Some, None, subst, sym, ap, ◌∙◌}
+use Rattle.std.proofs.Common.{◌≡◌, ℕ, zero, suc, Bool, true, false, cond, ◌&&◌, ◌==◌, List, [], ◌∷◌, length, drop, Some, None, refl, subst, sym, ap, ◌∙◌}
 use Rattle.std.specs.Prelude.{slice_index, Ok, Err}
 use Rattle.std.specs.List.{AllByRecursion, slice_get}
 use Rattle.std.proofs.ByRecursion.{All-append}
@@ -21,6 +21,10 @@ use Rattle.records.specs.Record.{number, body_of}
 use Rattle.records.specs.Handles.{joining, words_handles, case_handles, field_handles, fields_handles, parts_handles, handles_of, field_in, parts_field, field_of}
 use Rattle.rules.specs.Module.{Record}
 use Rattle.rules.specs.Kinds.{starts_with}
+
+pub named_table : (t : Table) (n : ℕ) → table_of (named t n) ≡ t
+named_table table.Types n = refl
+named_table t n = refl
 
 -- whether the handles in a word, in rows of words, and in a field are of tables that are allowed
 module _ (allowed : Table → Bool) where
@@ -53,17 +57,13 @@ module _ (allowed : Table → Bool) where
   one_allowed (f ∷ fs) zero = field_allowed f
   one_allowed (f ∷ fs) (suc k) = one_allowed fs k
 
-  table_named : (t : Table) (n : ℕ) → allowed t ≡ true → Allowed (named t n)
-  table_named table.Types n e = e
-  table_named t n e = e
-
   present : (b : Bool) (h : Handle) (hs : List Handle) → Allowed h → AllByRecursion Allowed hs → AllByRecursion Allowed (joining (cond b None (Some h)) hs)
   present true h hs a all = all
   present false h hs a all = (a, all)
 
   word_is : (w : Word) (n : ℕ) (hs : List Handle) → word_allowed w ≡ true → AllByRecursion Allowed hs → AllByRecursion Allowed (joining (handle_in w n) hs)
-  word_is (word.Handle t) n hs e all = present _ (named t n) hs (table_named t n e) all
-  word_is (word.Optional t) n hs e all = present _ (named t n) hs (table_named t n e) all
+  word_is (word.Handle t) n hs e all = present _ (named t n) hs (ap allowed (named_table t n) ∙ e) all
+  word_is (word.Optional t) n hs e all = present _ (named t n) hs (ap allowed (named_table t n) ∙ e) all
   word_is word.Mark n hs e all = all
   word_is word.Number n hs e all = all
   word_is word.NonZero n hs e all = all

@@ -29,24 +29,26 @@ use Rattle.items.specs.Whole.{last_of, items_of}
 use Rattle.items.proofs.Whole.{table_is, special_told, predeclared_told}
 use Rattle.sealing.proofs.Faults.{Kinded}
 
+-- what holds of a list holds with one more before it, of which it holds too
+pub one_more_if : {X : Type 0} (P : X → Type 0) (b : Bool) (x : X) (xs : List X) → (b ≡ true → P x) → AllByRecursion P xs → AllByRecursion P (cond b (x ∷ xs) xs)
+one_more_if P true x xs p h = (p refl, h)
+one_more_if P false x xs p h = h
+
 -- what holds of every record that makes an item of a section holds of the items
 module _ (sec : Section) (P : Record → Type 0) (of : (s : State) (r : Record) → selects sec s r ≡ true → P r) where
   abbrev Has : List Item → Type 0
   Has items = AllByRecursion (λ i. P i.bytes) items
 
-  one_more : (b : Bool) (s : State) (r : Record) (items : List Item) → (b ≡ true → P r) → Has items → Has (cond b (item_of s r ∷ items) items)
-  one_more true s r items p h = (p refl, h)
-  one_more false s r items p h = h
-
   gained_has : (s : State) (rs : List Record) → Has (gained sec s rs)
   gained_has s [] = tt
-  gained_has s (r ∷ rs) = one_more (selects sec s r) s r (gained sec (step s r) rs) (of s r) (gained_has (step s r) rs)
+  gained_has s (r ∷ rs) = one_more_if (λ i. P i.bytes) (selects sec s r) (item_of s r) (gained sec (step s r) rs) (of s r) (gained_has (step s r) rs)
 
   items_have : (m : List Record) → Has (items_of sec m)
   unfolding items_between
   items_have m = gained_has (state []) (drop 0 (take (length m) m))
 
-last_has : (P : Item → Type 0) (items : List Item) → AllByRecursion P items → AllByRecursion P (option_to_list (last_of items))
+-- what holds of all items holds of the last
+pub last_has : (P : Item → Type 0) (items : List Item) → AllByRecursion P items → AllByRecursion P (option_to_list (last_of items))
 last_has P [] h = tt
 last_has P (i ∷ []) h = h
 last_has P (i ∷ j ∷ items) h = last_has P (j ∷ items) h.1

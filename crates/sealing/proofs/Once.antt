@@ -1,9 +1,8 @@
 -- Looking at each global expression once changes no answer.
-use Rattle.std.proofs.Common.{◌≡◌, ℕ, zero, suc, ◌<◌, List, [], ◌∷◌, take, drop, slice_get, flat_map, Some, sym, refl, subst, ◌∙◌, inl, inr, arith}
+use Rattle.std.proofs.Common.{◌≡◌, ℕ, zero, suc, ◌<◌, List, [], ◌∷◌, take, drop, slice_get, flat_map, Some, sym, refl, ◌∙◌, inl, inr, arith}
 use Rattle.std.specs.List.{AllByRecursion}
 use Rattle.std.proofs.ByRecursion.{All-weaker}
 use Rattle.std.proofs.lemmas.Bool.{cases_lt}
-use Rattle.std.proofs.lemmas.Option.{same_Some}
 use Rattle.ir.specs.declared.handle.Table.TheVariants as table
 use Rattle.rules.specs.declared.faults.Rule.TheVariants as rule
 use Rattle.rules.specs.Module.{Item, Module}
@@ -14,16 +13,11 @@ use Rattle.rules.specs.Once.{inits, met_after}
 use Rattle.rules.proofs.Passing.{hold_from_none, none_from_hold, hold_each, below_from_hold, hold_from_below}
 use Rattle.rules.proofs.Firsts.{passed, then_same, after_same, each_same}
 use Rattle.rules.proofs.Once.{get_take, get_from_take}
+use Rattle.walk.proofs.Places.{all_at}
 use Rattle.sealing.specs.Seal.{global_tests, types_named, waited_tests, up_to_tests, pending_tests, inner_then_other_tests}
 use Rattle.sealing.specs.Once.{up_to_once, pending_once, sizes_once, LookedAtOnce}
 
 module _ {X : Type 0} where
-  -- what holds of each element, of the one at a place
-  pub all_at : (P : X → Type 0) (xs : List X) → AllByRecursion P xs → (k : ℕ) (x : X) → slice_get xs k ≡ Some x → P x
-  all_at P [] h k x s = absurd cc
-  all_at P (y ∷ xs) h zero x s = subst P (same_Some y x s) h.0
-  all_at P (y ∷ xs) h (suc k) x s = all_at P xs h.1 k x s
-
   -- the first k of the items have tests that pass
   skip_each : (f : X → List Test) (k : ℕ) (xs : List X) → ((x : ℕ) (i : X) → slice_get xs x ≡ Some i → x < k → AllHold (f i)) → first (flat_map f xs) ≡ first (flat_map f (drop k xs))
   skip_each f zero xs h = refl
@@ -50,7 +44,7 @@ module _ (m : Module) where
       let front = take (suc e) m.expressions in
       let each = hold_each (waited_tests m t place) front h in
       below_from_hold rule.SealedEarlier table.Types t place (types_named m i)
-      (all_at (λ j. AllHold (waited_tests m t place j)) front each x i (get_take m.expressions (suc e) x i s l))
+      (all_at (λ j. AllHold (waited_tests m t place j)) front x i each (get_take m.expressions (suc e) x i s l))
 
   -- a type that passes has looked at the expressions up to its inits
   inits_looked : (met t : ℕ) (i : Item) → Looked met t → AllHold (pending_tests m t i) → Looked (met_after met (inits m i)) t

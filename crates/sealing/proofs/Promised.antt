@@ -1,10 +1,8 @@
 -- What it says of a module that every test of sealing passes.
-use Rattle.std.proofs.Common.{◌≡◌, ℕ, zero, suc, ◌<◌, Bool, true, false, cond, List, [], ◌∷◌, ◌++◌, map, filter, length, slice_get, flat_map, Some, None, sym, refl, ap, ◌∙◌, subst, ltb-true}
+use Rattle.std.proofs.Common.{◌≡◌, ℕ, suc, ◌<◌, Bool, true, false, cond, List, [], ◌∷◌, ◌++◌, map, filter, length, slice_get, flat_map, Some, None, sym, refl, ap, ◌∙◌, subst, ltb-true}
 use Rattle.std.specs.List.{AllByRecursion}
 use Rattle.std.proofs.ByRecursion.{All-append, All-weaker}
 use Rattle.std.proofs.lemmas.Grind.{flat_map-append}
-use Rattle.std.proofs.lemmas.Option.{same_Some}
-use Rattle.ir.specs.declared.handle.Table.{Table}
 use Rattle.ir.specs.declared.handle.Table.TheVariants as table
 use Rattle.records.specs.Handles.{handles_of}
 use Rattle.rules.specs.declared.faults.Rule.TheVariants as rule
@@ -19,6 +17,8 @@ use Rattle.rules.proofs.Once.{all_flat}
 use Rattle.rules.specs.Verdict.{AllHold, NamesEarlier, CallsEarlier, Ordered}
 use Rattle.rules.proofs.Passing.{hold_from_none, none_from_hold, hold_left, hold_right, hold_each, hold_numbered, below_from_hold}
 use Rattle.rules.proofs.Verdict.{verdict}
+use Rattle.items.proofs.Numbered.{mapped_at}
+use Rattle.node.specs.Nodes.{Node}
 use Rattle.tables.specs.Tables.{node_of, records_of, callees, function_node}
 use Rattle.tables.proofs.Numbers.{numbers_append}
 use Rattle.sealing.specs.Seal.{global_tests, pending_tests as sized_tests, body_tests, calls, call_tests, other_tests, inner_then_other_tests, seal_tests, all_tests, seal}
@@ -28,13 +28,9 @@ use Rattle.sealing.specs.Promised.{TablesEarlier, ExactlyWhenAllHold, InitsInsid
 pub exactly : (m : Module) → ExactlyWhenAllHold m
 exactly m = record { holds = hold_from_none (all_tests m); passes = none_from_hold (all_tests m) }
 
--- items of which each names only earlier ones, as nodes
-nodes_earlier : (t : Table) (items : List Item) → NamesEarlier t items → OperandsEarlier (map (node_of t) items)
-nodes_earlier t items named n x s = let g = gotten items n s in subst (λ y. AllByRecursion (λ k. k < n) y.operands) g.2 (named n g.0 g.1) where
-  gotten : (is : List Item) (k : ℕ) → slice_get (map (node_of t) is) k ≡ Some x → (i : Item) × (slice_get is k ≡ Some i) × (node_of t i ≡ x)
-  gotten [] k e = absurd cc
-  gotten (i ∷ is) zero e = (i, refl, same_Some (node_of t i) x e)
-  gotten (i ∷ is) (suc k) e = gotten is k e
+-- what is shown as nodes, each with earlier operands only
+nodes_earlier : {X : Type 0} (node : X → Node) (xs : List X) → ((n : ℕ) (x : X) → slice_get xs n ≡ Some x → AllByRecursion (λ k. k < n) (node x).operands) → OperandsEarlier (map node xs)
+nodes_earlier node xs each n y s = let g = mapped_at node xs n y s in subst (λ z. AllByRecursion (λ k. k < n) z.operands) g.2 (each n g.0 g.1)
 
 -- the functions of the results of calls, where each names earlier functions
 module _ (f : ℕ) where
@@ -56,13 +52,6 @@ callees_are b =
 
 pub results_before : (f : ℕ) (b : Body) → CallsEarlier f b → AllByRecursion (λ x. x < f) (numbers table.Functions (flat_map handles_of (records_of CallResult b.expressions)))
 results_before f b h = results_earlier f b.expressions h
-
-functions_earlier : (bodies : List Body) → ((f : ℕ) (b : Body) → slice_get bodies f ≡ Some b → AllByRecursion (λ x. x < f) (callees b)) → OperandsEarlier (map function_node bodies)
-functions_earlier bodies each n x s = let g = gotten bodies n s in subst (λ y. AllByRecursion (λ k. k < n) y.operands) g.2 (each n g.0 g.1) where
-  gotten : (bs : List Body) (k : ℕ) → slice_get (map function_node bs) k ≡ Some x → (b : Body) × (slice_get bs k ≡ Some b) × (function_node b ≡ x)
-  gotten [] k e = absurd cc
-  gotten (b ∷ bs) zero e = (b, refl, same_Some (function_node b) x e)
-  gotten (b ∷ bs) (suc k) e = gotten bs k e
 
 -- the init of a pending size is inside where the type passes the check
 module _ (m : Module) (t : ℕ) where
@@ -120,11 +109,11 @@ module _ (m : Module) (h : AllHold (all_tests m)) where
 
   tables_earlier : TablesEarlier m
   tables_earlier = record {
-    types = nodes_earlier table.Types m.types ordered.types;
-    filters = nodes_earlier table.Filters m.filters ordered.filters;
-    functions = functions_earlier m.functions callees_earlier;
-    expressions = nodes_earlier table.Expressions m.expressions globals_earlier;
-    bodies = All-weaker (λ b. NamesEarlier table.Expressions b.expressions) (λ b. OperandsEarlier (map (node_of table.Expressions) b.expressions)) (λ b. nodes_earlier table.Expressions b.expressions) (m.functions ++ m.entries) ordered.bodies;
+    types = nodes_earlier (node_of table.Types) m.types ordered.types;
+    filters = nodes_earlier (node_of table.Filters) m.filters ordered.filters;
+    functions = nodes_earlier function_node m.functions callees_earlier;
+    expressions = nodes_earlier (node_of table.Expressions) m.expressions globals_earlier;
+    bodies = All-weaker (λ b. NamesEarlier table.Expressions b.expressions) (λ b. OperandsEarlier (map (node_of table.Expressions) b.expressions)) (λ b. nodes_earlier (node_of table.Expressions) b.expressions) (m.functions ++ m.entries) ordered.bodies;
   }
 
 -- in a module that sealing accepts, the operands of the five tables are earlier

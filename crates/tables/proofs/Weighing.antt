@@ -53,7 +53,7 @@ module _ (t : SlotTable) (untaken : rank t ≡ 1 → ⊥) where
       omega (arith, length-append r (image rs), ap (sum_by weight) x.items)
 
 -- records behind accepted ones are accepted
-accepted_back : (s : State) (m n : List Record) → Accepted s (m ++ n) → Accepted (fold step s m) n
+pub accepted_back : (s : State) (m n : List Record) → Accepted s (m ++ n) → Accepted (fold step s m) n
 accepted_back s [] n a = a
 accepted_back s (r ∷ m) n a = accepted_back (step s r) m n a.1
 

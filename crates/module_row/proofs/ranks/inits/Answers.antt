@@ -39,7 +39,7 @@ loop-value-preserved c =
           ∙ ap (λ l. l ++ option_to_list c.own.result ∷ []) c.loop-value.invariant.4
           ∙ ap (λ x. map init_of (take k m.overrides) ++ x ∷ []) c.own.ensures
           ∙ mapped_more init_of m.overrides k i p.0
-          ∙ ap (λ n. map init_of (take n m.overrides)) (sym size),
+          ∙ ap (λ n. map init_of (take n m.overrides)) (later ∙ sym size),
     )
 
 pub returns : goal.returns

@@ -13,11 +13,11 @@ use Rattle.promises.proofs.Among.{in_all}
 use Rattle.promises.proofs.Rows.{own_within}
 use Rattle.module_row.proofs.Inits.{all_told, as_long}
 use Rattle.items.specs.Item.{shown, items_left}
-use Rattle.promises.specs.Rows.{above, room}
+use Rattle.promises.specs.Rows.{above, room, counted}
 use Rattle.valid.specs.Module.{shown_module}
 use Rattle.valid.proofs.Typed.{here_of}
-use Rattle.module_row.specs.Rooms.{rooms_from}
-use Rattle.module_row.proofs.Rooms.{max_is, room_next, rooms_more}
+use Rattle.module_row.proofs.Counted.{counted_more}
+use Rattle.module_row.proofs.Rooms.{max_is, room_next}
 use Rattle.module_row.proofs.ranks.rooms.Goals as goal
 use Rattle.module_row.proofs.ranks.rooms.Goals.{In-None}
 
@@ -29,7 +29,7 @@ loop-ty-init c =
       tt,
       ap items_left c.into_iter-ty-iterator.ensures.into_iter_gives ∙ c.items-ty-items.ensures ∙ ap (λ k. drop k m.types) (sym n),
       omega arith,
-      c.new-rooms.ensures.items ∙ ap (λ k. rooms_from m 0 k) (sym n),
+      c.new-rooms.ensures.items ∙ ap (counted (room m) 0) (sym n),
       ap (λ k. above (flat_map (inits m) (take k m.types))) (sym n),
       omega arith,
     )
@@ -58,7 +58,7 @@ loop-ty-preserved c =
       tt,
       p.1 ∙ ap (λ n. drop n m.types) (later ∙ sym size),
       omega arith,
-      items ∙ ap (λ l. l ++ c.max-room.result ∷ []) c.loop-ty.invariant.4 ∙ ap (λ n. rooms_from m 0 k ++ n ∷ []) room_is ∙ rooms_more m k ∙ ap (rooms_from m 0) (sym size),
+      items ∙ ap (λ l. l ++ c.max-room.result ∷ []) c.loop-ty.invariant.4 ∙ ap (λ n. counted (room m) 0 k ++ n ∷ []) room_is ∙ counted_more (room m) k ∙ ap (counted (room m) 0) (sym size),
       room_is ∙ ap (λ n. above (flat_map (inits m) (take n m.types))) (sym size),
       omega arith,
     )
@@ -74,7 +74,7 @@ all c =
     omega arith
 
 pub returns-clause-rooms : goal.returns-clause-rooms
-returns-clause-rooms c = c.loop-ty.invariant.4 ∙ ap (rooms_from (shown_module c.args.«module») 0) (all (goal.at.returns-clause-rooms c).In-None)
+returns-clause-rooms c = c.loop-ty.invariant.4 ∙ ap (counted (room (shown_module c.args.«module»)) 0) (all (goal.at.returns-clause-rooms c).In-None)
 
 pub returns-clause-few : goal.returns-clause-few
 returns-clause-few c =

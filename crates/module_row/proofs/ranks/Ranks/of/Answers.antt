@@ -4,7 +4,7 @@ use Rattle.rules.specs.Sizes.{sizes}
 use Rattle.items.specs.Whole.{module_of}
 use Rattle.promises.specs.Inside.{ItemsInside}
 use Rattle.seal.specs.Sealed.{sealed_records}
-use Rattle.module_row.proofs.Sealed.{built_is}
+use Rattle.seal.proofs.Sealing.{built_is}
 use Rattle.module_row.proofs.ranks.Ranks.of.Goals as goal
 
 pub rooms-requires : goal.rooms-requires

@@ -8,10 +8,11 @@ use Rattle.row.proofs.Places.{in_from_get}
 use Rattle.promises.specs.Inside.{ItemInside}
 use Rattle.promises.specs.Rows.{RowItem}
 use Rattle.promises.proofs.Among.{in_all}
+use Rattle.promises.proofs.Rows.{value_rank_is}
 use Rattle.valid.specs.Module.{shown_module}
 use Rattle.valid.proofs.Typed.{here_of}
 use Rattle.module_row.specs.Ranked.{shown_ranked, with_ranks}
-use Rattle.module_row.proofs.WithRanks.{pushed, override_rank}
+use Rattle.module_row.proofs.WithRanks.{pushed}
 use Rattle.module_row.proofs.ranks.Ranks.rank_overrides.Goals as goal
 
 pub value_rank-requires : goal.value_rank-requires
@@ -54,7 +55,7 @@ loop-number-preserved c =
       omega arith,
       ap (map shown_ranked) (c.in_ok-push.ensures {u = tt}).items
           ∙ pushed m shown_ranked before RowItem.override n c.loop-number.ranked.items _ c.loop-number.invariant.4
-          (ap (λ j. (c.value_rank.result, RowItem.override j)) s.1 ∙ ap (λ r. (r, RowItem.override n)) (c.value_rank.ensures ∙ override_rank m n i p.0))
+          (ap (λ j. (c.value_rank.result, RowItem.override j)) s.1 ∙ ap (λ r. (r, RowItem.override n)) (c.value_rank.ensures ∙ sym (value_rank_is m m.overrides n i p.0)))
           ∙ ap (λ k. before ++ with_ranks m RowItem.override k) (later ∙ sym s.2),
     )
 
