@@ -10,12 +10,14 @@ use sealed_walk::walking::DraftTable;
 use walk::walk::{Tally, WalkRefusal};
 
 /// The table that a walk wants: one of the draft's, or one that the caller has.
+#[derive(Drop)]
 pub enum WantedTable<T> {
     Draft(DraftTable),
     Own(T),
 }
 
 /// A walk: its reading, the table that it wants, and how many places it is lent at most.
+#[derive(Drop)]
 pub struct Walk<'a, R, T> {
     pub reading: &'a R,
     pub table: WantedTable<T>,
@@ -24,6 +26,7 @@ pub struct Walk<'a, R, T> {
 
 /// A call on a draft.
 // Not a closure: a list of calls is data that a caller gives.
+#[derive(Drop)]
 pub enum Call<'a, R, T> {
     Put(&'a [u8]),
     Check,

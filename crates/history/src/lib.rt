@@ -2,5 +2,8 @@
 #![tactic(auto)]
 
 pub mod calls;
+pub mod mixed;
 pub mod replay;
+#[cfg(test)]
+mod tests;
 mod walks;
