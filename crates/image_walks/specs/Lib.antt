@@ -1,0 +1,4 @@
+pub mod Table
+pub mod Answer
+pub mod Values
+pub mod Flags
