@@ -6,4 +6,6 @@ pub mod flags;
 pub mod image;
 pub mod refusal;
 pub mod table;
+#[cfg(test)]
+mod tests;
 pub mod walked;
