@@ -1,14 +1,25 @@
 //! The calls for C.
 #![tactic(auto)]
 
-ghost use Rattle.std.specs.Prelude.{◌≡◌};
+ghost use Rattle.std.specs.Prelude.{◌≡◌, length};
 ghost use Rattle.images.specs.declared.question.Question.TheVariants.{Check, Seal};
 ghost use Rattle.images.specs.Answer.{verdict_in};
 ghost use Rattle.images.specs.Law.{Answers};
+ghost use Rattle.walk.specs.Readings.{depth};
+ghost use Rattle.image_walks.specs.Table.{numbered_table};
+ghost use Rattle.image_walks.specs.Answer.{nodes_walked, numbers};
+ghost use Rattle.walk.specs.Leaves.{tallied};
+ghost use Rattle.walk.specs.Leaves.{Leaves};
+ghost use Rattle.image_walks.specs.Flags.{LeavesFlags};
 
+use image_walks::fixed::walk_within;
+use image_walks::flags::Flags;
+use image_walks::table::numbered_table;
+use image_walks::walked::Walked;
 use images::fixed::{BYTES, LARGE_BYTES, LARGE_SLOTS, SLOTS, ask, ask_large};
 use images::question::Question;
 use images::verdict::Verdict;
+use walk::depth::Depth;
 
 /// The number of the refusal of an image, or 0 where it passes the check.
 #[unsafe(no_mangle)]
@@ -126,4 +137,62 @@ pub extern "C" fn dulvanos_seal_large(image: &[u8], times: u32) -> Verdict
     ensures law { Answers Seal LARGE_BYTES LARGE_SLOTS image.now result }
 {
     ask_large(Question::Seal, image, times)
+}
+
+/// Writes the depth of each item of a table of a sealed image, one more than that of its deepest operand.
+#[unsafe(no_mangle)]
+pub extern "C" fn dulvanos_depth(image: &[u8], table: u32, body: u32, values: &mut [u32]) -> Walked
+    ensures answer { result ≡ numbers (tallied (nodes_walked BYTES SLOTS image.now (numbered_table table body) (length values.old))) }
+    ensures values { Leaves depth (nodes_walked BYTES SLOTS image.now (numbered_table table body) (length values.old)) values.old values.new }
+{
+    walk_within::<Depth, BYTES, SLOTS>(numbered_table(table, body), &Depth, values, image)
+}
+
+/// The same in memory for a large image.
+#[unsafe(no_mangle)]
+pub extern "C" fn dulvanos_depth_large(
+    image: &[u8],
+    table: u32,
+    body: u32,
+    values: &mut [u32],
+) -> Walked
+    ensures answer { result ≡ numbers (tallied (nodes_walked LARGE_BYTES LARGE_SLOTS image.now (numbered_table table body) (length values.old))) }
+    ensures values { Leaves depth (nodes_walked LARGE_BYTES LARGE_SLOTS image.now (numbered_table table body) (length values.old)) values.old values.new }
+{
+    walk_within::<Depth, LARGE_BYTES, LARGE_SLOTS>(
+        numbered_table(table, body),
+        &Depth,
+        values,
+        image,
+    )
+}
+
+/// Writes for each item of a table of a sealed image whether it is steady, by 1 and 0.
+#[tactic(auto, using(image_walks::proofs::Steadiness::leaves_flags))]
+#[unsafe(no_mangle)]
+pub extern "C" fn dulvanos_steady(image: &[u8], table: u32, body: u32, values: &mut [u8]) -> Walked
+    ensures answer { result ≡ numbers (tallied (nodes_walked BYTES SLOTS image.now (numbered_table table body) (length values.old))) }
+    ensures values { LeavesFlags (nodes_walked BYTES SLOTS image.now (numbered_table table body) (length values.old)) values.old values.new }
+{
+    walk_within::<Flags, BYTES, SLOTS>(numbered_table(table, body), &Flags, values, image)
+}
+
+/// The same in memory for a large image.
+#[tactic(auto, using(image_walks::proofs::Steadiness::leaves_flags))]
+#[unsafe(no_mangle)]
+pub extern "C" fn dulvanos_steady_large(
+    image: &[u8],
+    table: u32,
+    body: u32,
+    values: &mut [u8],
+) -> Walked
+    ensures answer { result ≡ numbers (tallied (nodes_walked LARGE_BYTES LARGE_SLOTS image.now (numbered_table table body) (length values.old))) }
+    ensures values { LeavesFlags (nodes_walked LARGE_BYTES LARGE_SLOTS image.now (numbered_table table body) (length values.old)) values.old values.new }
+{
+    walk_within::<Flags, LARGE_BYTES, LARGE_SLOTS>(
+        numbered_table(table, body),
+        &Flags,
+        values,
+        image,
+    )
 }

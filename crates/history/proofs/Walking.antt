@@ -10,9 +10,9 @@ use Rattle.node.specs.declared.earlier.Late.{Late}
 use Rattle.walk.specs.declared.walk.WalkRefusal.TheVariants.{TooFewPlaces}
 use Rattle.walk.specs.Steps.{Steps}
 use Rattle.walk.specs.Rule.{OperandsEarlier, TheValues}
+use Rattle.walk.specs.Leaves.{placed, Leaves}
 use Rattle.history.specs.declared.calls.Denial.{Denial}
 use Rattle.history.specs.declared.calls.Denial.TheVariants.{Refused}
-use Rattle.history.specs.Walks.{placed, Leaves}
 
 -- a table that passes the test has earlier operands only
 pass_when : (b : Bool) (x : ℕ) (o : Option ℕ) → cond b o (Some x) ≡ None → (b ≡ true) × (o ≡ None)
@@ -58,19 +58,19 @@ module _ {W V : Type 0} (s : Steps W V) (before first : List V) (n : ℕ) (all :
   placed_when nodes false e v =
       let fits : length nodes ≤ n = ltb-false n (length nodes) e in
       record {
-        values = subst (λ l. TheValues s nodes l) (sym (take-append-le (length nodes) first (drop n before) (omega arith))) v.values;
+        theirs = subst (λ l. TheValues s nodes l) (sym (take-append-le (length nodes) first (drop n before) (omega arith))) v.theirs;
         beyond = beyond (length nodes) fits v.beyond;
       }
 
-  pub behind_stay : (p : Result (List Node) Denial) → Leaves s (placed n p) (take n before) first → Leaves s (placed n p) before (first ++ drop n before)
+  pub behind_stay : (p : Result (List Node) Denial) → Leaves s (placed Refused n p) (take n before) first → Leaves s (placed Refused n p) before (first ++ drop n before)
   behind_stay (Err e) same = whole same
   behind_stay (Ok nodes) v = placed_when nodes (nat_lt n (length nodes)) refl v
 
-pub lent : {W V : Type 0} (s : Steps W V) (before first : List V) (n m : ℕ) (p q : Result (List Node) Denial) → n ≡ min m (length before) → length first ≡ length (take n before) → p ≡ q → Leaves s (placed (length (take n before)) p) (take n before) first → Leaves s (placed (min m (length before)) q) before (first ++ drop n before)
+pub lent : {W V : Type 0} (s : Steps W V) (before first : List V) (n m : ℕ) (p q : Result (List Node) Denial) → n ≡ min m (length before) → length first ≡ length (take n before) → p ≡ q → Leaves s (placed Refused (length (take n before)) p) (take n before) first → Leaves s (placed Refused (min m (length before)) q) before (first ++ drop n before)
 lent s before first n m p q is long same v =
     let right = min-le_right m (length before) in
     let all : n ≤ length before = omega arith in
     let taken : length (take n before) ≡ n = length-take-le n before all in
-    subst (λ o. Leaves s (placed (min m (length before)) o) before (first ++ drop n before)) same
-    (subst (λ k. Leaves s (placed k p) before (first ++ drop n before)) is
-    (behind_stay s before first n all (long ∙ taken) p (subst (λ k. Leaves s (placed k p) (take n before) first) taken v)))
+    subst (λ o. Leaves s (placed Refused (min m (length before)) o) before (first ++ drop n before)) same
+    (subst (λ k. Leaves s (placed Refused k p) before (first ++ drop n before)) is
+    (behind_stay s before first n all (long ∙ taken) p (subst (λ k. Leaves s (placed Refused k p) (take n before) first) taken v)))

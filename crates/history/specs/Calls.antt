@@ -14,12 +14,13 @@ use Rattle.valid.specs.Check.{verdict_of}
 use Rattle.sealing.specs.Seal.{seal_of}
 use Rattle.promises.specs.Promises.{Promises}
 use Rattle.walk.specs.Steps.{Steps}
+use Rattle.walk.specs.Leaves.{tallied, Leaves}
 use Rattle.history.specs.declared.calls.Call.{Call}
 use Rattle.history.specs.declared.calls.Call.TheVariants as call
 use Rattle.history.specs.declared.calls.Walk.{Walk}
 use Rattle.history.specs.declared.calls.Outcome.{Outcome}
 use Rattle.history.specs.declared.calls.Outcome.TheVariants as outcome
-use Rattle.history.specs.Walks.{walked_nodes, tallied, Leaves}
+use Rattle.history.specs.Walks.{walked_nodes}
 
 -- passed, or refused for this reason
 abbrev pub unless : Option Rejection → Result Unit Rejection

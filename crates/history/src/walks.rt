@@ -2,7 +2,9 @@
 ghost use Rattle.std.specs.Prelude.{◌≡◌, length};
 ghost use Rattle.draft.specs.State.{state};
 ghost use Rattle.arena.specs.Memory.{Stands, records};
-ghost use Rattle.history.specs.Walks.{drafted, tested, placed, tallied, walked_nodes, Leaves};
+ghost use Rattle.walk.specs.Leaves.{placed, tallied, Leaves};
+ghost use Rattle.history.specs.declared.calls.Denial.TheVariants.{Refused};
+ghost use Rattle.history.specs.Walks.{drafted, tested, walked_nodes};
 
 use crate::calls::{Denial, Walk, WantedTable};
 use arena::Draft;
@@ -24,8 +26,8 @@ fn walk_draft<R: Reading>(
     values: &mut [R::Value],
 ) -> Result<Tally, Denial>
     requires { Stands draft.now bytes.now slots.now }
-    ensures answers { result ≡ tallied (placed (length values.old) (drafted (state (records draft.now bytes.now slots.now)) table)) }
-    ensures leaves { Leaves (R.steps reading.now) (placed (length values.old) (drafted (state (records draft.now bytes.now slots.now)) table)) values.old values.new }
+    ensures answers { result ≡ tallied (placed Refused (length values.old) (drafted (state (records draft.now bytes.now slots.now)) table)) }
+    ensures leaves { Leaves (R.steps reading.now) (placed Refused (length values.old) (drafted (state (records draft.now bytes.now slots.now)) table)) values.old values.new }
 {
     let sealed = seal(draft, bytes, slots)?;
     let tally = walk_sealed(sealed, table, reading, values)?;
@@ -38,8 +40,8 @@ fn walk_own<'a, R: Reading, T: NodeTable<'a>>(
     reading: &R,
     values: &mut [R::Value],
 ) -> Result<Tally, Denial>
-    ensures answers { result ≡ tallied (placed (length values.old) (tested (T.nodes table.old))) }
-    ensures leaves { Leaves (R.steps reading.now) (placed (length values.old) (tested (T.nodes table.old))) values.old values.new }
+    ensures answers { result ≡ tallied (placed Refused (length values.old) (tested (T.nodes table.old))) }
+    ensures leaves { Leaves (R.steps reading.now) (placed Refused (length values.old) (tested (T.nodes table.old))) values.old values.new }
 {
     if let Some(late) = late_in(table) {
         return Err(Denial::Late(late));
