@@ -8,8 +8,7 @@ ghost use Rattle.images.specs.Law.{Answers};
 ghost use Rattle.walk.specs.Readings.{depth};
 ghost use Rattle.image_walks.specs.Table.{numbered_table};
 ghost use Rattle.image_walks.specs.Answer.{nodes_walked, numbers};
-ghost use Rattle.walk.specs.Leaves.{tallied};
-ghost use Rattle.walk.specs.Leaves.{Leaves};
+ghost use Rattle.walk.specs.Leaves.{tallied, Leaves};
 ghost use Rattle.image_walks.specs.Flags.{LeavesFlags};
 
 use image_walks::fixed::walk_within;

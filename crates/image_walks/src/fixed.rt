@@ -1,8 +1,7 @@
 //! The walk of a table of an image in memory of a fixed size, on the stack.
 ghost use Rattle.std.specs.Prelude.{◌≡◌, ◌^◌, ◌<◌, length};
 ghost use Rattle.image_walks.specs.Answer.{nodes_walked, numbers};
-ghost use Rattle.walk.specs.Leaves.{tallied};
-ghost use Rattle.walk.specs.Leaves.{Leaves};
+ghost use Rattle.walk.specs.Leaves.{tallied, Leaves};
 
 use crate::image::walk_image;
 use crate::walked::Walked;

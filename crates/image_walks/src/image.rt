@@ -1,8 +1,7 @@
 //! The walk of a table of an image.
 ghost use Rattle.std.specs.Prelude.{◌≡◌, length};
 ghost use Rattle.image_walks.specs.Answer.{nodes_walked};
-ghost use Rattle.walk.specs.Leaves.{tallied};
-ghost use Rattle.walk.specs.Leaves.{Leaves};
+ghost use Rattle.walk.specs.Leaves.{tallied, Leaves};
 
 use crate::refusal::ImageWalkRefusal;
 use arena::Draft;
