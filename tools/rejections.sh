@@ -1,5 +1,5 @@
 #!/usr/bin/env bash
-# Which callers of sealing do not compile. The edits that the gate tries must reach the prover, and these are stopped by
+# Which callers of sealing and of walks do not compile. The edits that the gate tries must reach the prover, and these are stopped by
 # the compiler before it: so a caller (tools/rejections/caller.source) is built as it stands, then with the edit that the compiler must accept, and then
 # with each of those that it must reject, and its message is looked for. Run from anywhere: bash tools/rejections.sh
 set -euo pipefail
@@ -15,7 +15,7 @@ for crate in crates/*; do
     if [ -d "$crate/proofs" ]; then cp -r "$crate/proofs" "$work/$crate/"; fi
 done
 cp crates.txt "$work/"
-echo "caller: arena rules seal" >>"$work/crates.txt"
+echo "caller: arena rules seal sealed_walk walk" >>"$work/crates.txt"
 failed=0
 
 # Puts the caller in place, with an edit if one is named.

@@ -1,4 +1,6 @@
 //! Walking the tables of a sealed draft.
 #![tactic(auto)]
 
+#[cfg(test)]
+mod tests;
 pub mod walking;
