@@ -3,7 +3,7 @@
 
 Run from the repository's root: python3 tools/second_walk.py > examples/c/walk.stdout
 
-The values are computed anew, from the pages docs/CHECK.md (node tables) and docs/READINGS.md; nothing of the crates is used.
+The values are computed anew, from the pages docs/CHECK.md (node tables) and docs/WALK.md; nothing of the crates is used.
 """
 from sample_images import SEALED
 from second_check import EXPRESSIONS, FILTERS, FUNCTIONS, TYPES
