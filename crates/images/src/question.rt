@@ -21,7 +21,7 @@ pub enum Question {
 
 impl Question {
     /// Asks it of a draft, which stays: a sealed draft is let go.
-    pub(crate) fn ask(self, draft: &Draft, bytes: &[u8], slots: &[Slot]) -> Result<(), Rejection>
+    pub fn ask(self, draft: &Draft, bytes: &[u8], slots: &[Slot]) -> Result<(), Rejection>
         requires { Stands draft.now bytes.now slots.now }
         ensures { result_err result ≡ asked self (state (records draft.now bytes.now slots.now)) }
     {
