@@ -1,4 +1,7 @@
 //! What walks of a sealed draft gave.
+ghost use Rattle.std.specs.Prelude.{◌≡◌};
+ghost use Rattle.module_text.specs.Shown.{ShowsDepths, ShowsSteady};
+
 use command::TableName;
 use std::fmt;
 use std::fmt::Display;
@@ -128,7 +131,11 @@ pub struct Plain<'a> {
 
 impl<'a> Plain<'a> {
     /// That by depth.
-    pub fn depth(table: TableName, walk: &'a TableWalk<u32>) -> Plain<'a> {
+    pub fn depth(table: TableName, walk: &'a TableWalk<u32>) -> Plain<'a>
+        ensures table { result.table ≡ table }
+        ensures tally { result.tally ≡ walk.now.tally }
+        ensures values { ShowsDepths walk.now.values.items result.values }
+    {
         Plain {
             table,
             tally: walk.tally,
@@ -137,7 +144,11 @@ impl<'a> Plain<'a> {
     }
 
     /// That by which items are steady.
-    pub fn steady(table: TableName, walk: &'a TableWalk<bool>) -> Plain<'a> {
+    pub fn steady(table: TableName, walk: &'a TableWalk<bool>) -> Plain<'a>
+        ensures table { result.table ≡ table }
+        ensures tally { result.tally ≡ walk.now.tally }
+        ensures values { ShowsSteady walk.now.values.items result.values }
+    {
         Plain {
             table,
             tally: walk.tally,
@@ -170,7 +181,7 @@ impl Display for Full<'_> {
         let (table, reading) = (FullTable(table), values.reading());
         write!(
             f,
-            "walk of {table}, {reading}: {items} items, {takes} takes"
+            "walk of {table}, {reading}: items {items}, takes {takes}"
         )?;
         values.write(Form::Full, f)
     }
