@@ -191,6 +191,37 @@ SEALED_ENTRY = [
     record(31),
 ]
 
+WALKED = [
+    record(16, 1, 260),  # type 0: Scalar
+    record(23, 2, 0, case(0, 4), 4),  # type 1: an Array of type 0
+    record(23, 3, 1, case(0, 2), 16),  # type 2: an Array of type 1
+    record(8, 4, ABSENT),  # filter 0
+    record(8, 5, 0),  # filter 1 below it
+    record(64, 42),  # global expression 0: Literal
+    record(3, 6, ABSENT, 0, 0),  # override 0
+    record(66, 0),  # 1: Override
+    record(81, 0, 0, 1),  # 2: Binary of 0 and 1
+    record(81, 0, 0, 0),  # 3: Binary of 0 and 0
+    # function 0: an argument, and its sum with a literal
+    record(11, 7, 0), record(13, 8, 0, ABSENT), record(14, 0, ABSENT),
+    record(73, 0),  # 0: FunctionArgument
+    record(64, 1),  # 1: Literal
+    record(81, 0, 0, 1),  # 2: Binary of 0 and 1
+    record(135, 2), record(31),
+    # function 1: calls function 0
+    record(11, 9, ABSENT),
+    record(64, 2),  # 0: Literal
+    record(80, 0, 0),  # 1: Unary of 0
+    record(87, 0),  # 2: CallResult
+    record(2, 1), record(144, 0, 2), record(31),
+    # entry point 0: three expressions, each over the one before it
+    record(12, 10, 1, ABSENT, 64, *[ABSENT] * 4, case(0, *[ABSENT] * 8), ABSENT, ABSENT),
+    record(64, 3),  # 0: Literal
+    record(80, 0, 0),  # 1: Unary of 0
+    record(81, 0, 1, 1),  # 2: Binary of 1 and 1
+    record(31),
+]
+
 IMAGES = {
     "every_kind.img": [*TYPES, *GLOBALS, *HELPER, *BIG, *ENTRY],
     # every kind where it may stand, which sealing accepts
@@ -223,6 +254,8 @@ IMAGES = {
     "replaced_result.img": [record(16, 1, 260), record(11, 2, ABSENT), record(14, 7, ABSENT), record(14, 0, ABSENT), record(31)],
     # a function that has not ended
     "unfinished.img": [record(11, 1, ABSENT), record(64, 42)],
+    # small tables of each sort, to be walked: docs/MODSEAL.md has their values
+    "walked.img": WALKED,
 }
 
 SCALAR, LITERAL, FUNCTION, END = record(16, 1, 260), record(64, 42), record(11, 1, ABSENT), record(31)

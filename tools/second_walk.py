@@ -1,58 +1,48 @@
-#!/usr/bin/env python3
-"""Prints what examples/c/walk.c must print for crates/modseal/data/sealed.img.
+"""A second implementation of the node tables and of both readings.
 
-Run from the repository's root: python3 tools/second_walk.py > examples/c/walk.stdout
-
-The values are computed anew, from the pages docs/CHECK.md (node tables) and docs/WALK.md; nothing of the crates is used.
+It is written from docs/WALK.md and docs/CHECK.md, over the modules of second_check.py.
 """
-from sample_images import SEALED
+from format_page import KINDS
 from second_check import EXPRESSIONS, FILTERS, FUNCTIONS, TYPES
 
-# Literal, Constant, ZeroValue, Compose, Access, AccessIndex, Splat, Swizzle, Unary, Binary, Select, Relational, Math, As
-STEADY = {64, 65, 67, 68, 69, 70, 71, 72, 80, 81, 82, 84, 85, 86}
+STEADY = {"Literal", "Constant", "ZeroValue", "Compose", "Access", "AccessIndex", "Splat", "Swizzle", "Unary", "Binary",
+          "Select", "Relational", "Math", "As"}
+CALL_RESULT, CALL = 87, 144
 
 
 def nodes(items, table):
-    """The kind of each item, and its operands."""
     return [(item.kind, item.numbers(table)) for item in items]
 
 
-def function_nodes(functions):
-    """A function's operands are those that it has results of, and then those that it calls."""
-    return [
-        (f.opener.kind, [n for kind, items in ((87, f.expressions), (144, f.statements))
-                         for item in items if item.kind == kind for t, n in item.own() if t == FUNCTIONS])
-        for f in functions
-    ]
+def callees(body):
+    calls = [e for e in body.expressions if e.kind == CALL_RESULT] + [s for s in body.statements if s.kind == CALL]
+    return [number for item in calls for table, number in item.own() if table == FUNCTIONS]
 
 
-def depth(table, item):
-    return 1 + max((depth(table, k) for k in table[item][1]), default=0)
+def tables(module):
+    """Each table by name, as the kind and the operands of each item."""
+    yield "types", nodes(module.types, TYPES)
+    yield "filters", nodes(module.filters, FILTERS)
+    yield "functions", [(body.opener.kind, callees(body)) for body in module.functions]
+    yield "global expressions", nodes(module.expressions, EXPRESSIONS)
+    for name, bodies in (("function", module.functions), ("entry point", module.entries)):
+        for number, body in enumerate(bodies):
+            yield f"{name} {number}", nodes(body.expressions, EXPRESSIONS)
 
 
-def steady(table, item):
-    kind, operands = table[item]
-    return kind in STEADY and all(steady(table, k) for k in operands)
+def is_steady(kind):
+    sort, _, name = KINDS[kind][0].partition("::")
+    return sort == "Expression" and name in STEADY
 
 
-def show(name, table):
-    print(f"{name}: {len(table)} items, {sum(len(operands) for _, operands in table)} operands")
-    if table:
-        print("   depth ", *(depth(table, i) for i in range(len(table))))
-        print("   steady", *(int(steady(table, i)) for i in range(len(table))))
+def values(table):
+    """The depth of each item, and whether it is steady."""
+    depths, steady = [], []
+    for kind, operands in table:
+        depths.append(1 + max((depths[k] for k in operands), default=0))
+        steady.append(is_steady(kind) and all(steady[k] for k in operands))
+    return depths, steady
 
 
-def show_bodies(name, bodies):
-    for number, body in enumerate(bodies):
-        show(f"body of {name} {number}", nodes(body.expressions, EXPRESSIONS))
-    print(f"body of {name} {len(bodies)}: refused with 14")
-
-
-show("types", nodes(SEALED.types, TYPES))
-show("filters", nodes(SEALED.filters, FILTERS))
-show("functions", function_nodes(SEALED.functions))
-show("global expressions", nodes(SEALED.expressions, EXPRESSIONS))
-print("global expressions, one place too few: refused with 15")
-show_bodies("function", SEALED.functions)
-show_bodies("entry point", SEALED.entries)
-print("table 6: refused with 14")
+def takes(table):
+    return sum(len(operands) for _, operands in table)

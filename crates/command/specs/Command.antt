@@ -8,16 +8,14 @@ use Rattle.command.specs.declared.Command.TheVariants.{Report, Check, Seal}
 use Rattle.command.specs.declared.Request.{Request}
 use Rattle.command.specs.declared.Request.TheVariants.{Read, Help, Version}
 use Rattle.command.specs.declared.Misuse.{Misuse}
-use Rattle.command.specs.declared.Misuse.TheVariants.{NoCommand, UnknownCommand, UnknownOption, NoNumber}
+use Rattle.command.specs.declared.Misuse.TheVariants.{NoCommand, UnknownCommand, UnknownOption, NoNumber, NoTable, NoReading}
 use Rattle.command.specs.declared.Options.{Options}
 use Rattle.command.specs.declared.Progress.{Progress}
 use Rattle.command.specs.declared.Limit.{Limit}
 use Rattle.command.specs.declared.Limit.TheVariants as limit
-use Rattle.command.specs.declared.Progress.TheVariants.{Empty, Reading, Awaiting, Settled}
-
--- from low to high, both included
-abbrev pub within : ℕ → ℕ → ℕ → Bool
-within low high n = nat_le low n && nat_le n high
+use Rattle.command.specs.declared.Progress.TheVariants.{Empty, AwaitingTable, AwaitingReading, Reading, Awaiting, Settled}
+use Rattle.command.specs.Numbers.{number_in}
+use Rattle.command.specs.Named.{no_options, table_of, reading_of, table_given, reading_given}
 
 -- it begins with '-'
 abbrev pub dashed : List ℕ → Bool
@@ -38,16 +36,6 @@ word_of w =
     (cond (dashed w) word.Unknown
     word.File))))))))
 
--- one digit more, where the number stays below 2 ^ 64
-abbrev pub digit_more : Option ℕ → ℕ → Option ℕ
-digit_more None b = None
-digit_more (Some n) b = cond (within 48 57 b && nat_lt (n * 10 + (b - 48)) (2 ^ 64)) (Some (n * 10 + (b - 48))) None
-
--- the number that decimal digits write, if there is at least one and nothing else
-abbrev pub number_in : List ℕ → Option ℕ
-number_in [] = None
-number_in (b ∷ w) = fold digit_more (Some 0) (b ∷ w)
-
 -- a word behind a command: the first that asks for help or the version, or is unknown, decides
 abbrev pub option_of : Word → Command → Options → Progress
 option_of word.Plain c o = Reading c (record o { plain = true })
@@ -66,29 +54,31 @@ limit_given l None c o = Settled (Err NoNumber)
 limit_given limit.Bytes (Some n) c o = Reading c (record o { bytes = Some n })
 limit_given limit.Slots (Some n) c o = Reading c (record o { slots = Some n })
 
-abbrev pub no_options : Options
-no_options = record { plain = false; keep_going = false; bytes = None; slots = None; named = false }
-
 -- the first word
 abbrev pub command_of : List ℕ → Progress
 command_of w =
     cond (bytes_eq w (codes "report")) (Reading Report no_options)
     (cond (bytes_eq w (codes "check")) (Reading Check no_options)
     (cond (bytes_eq w (codes "seal")) (Reading Seal no_options)
+    (cond (bytes_eq w (codes "walk")) AwaitingTable
     (cond (bytes_eq w (codes "--help")) (Settled (Ok Help))
     (cond (bytes_eq w (codes "-h")) (Settled (Ok Help))
     (cond (bytes_eq w (codes "--version")) (Settled (Ok Version))
-    (Settled (Err UnknownCommand)))))))
+    (Settled (Err UnknownCommand))))))))
 
 -- one word more
 abbrev pub next_of : Progress → List ℕ → Progress
 next_of Empty w = command_of w
+next_of AwaitingTable w = table_given (table_of w)
+next_of (AwaitingReading t) w = reading_given t (reading_of w)
 next_of (Reading c o) w = option_of (word_of w) c o
 next_of (Awaiting l c o) w = limit_given l (number_in w) c o
 next_of (Settled r) w = Settled r
 
 abbrev pub finished : Progress → Result Request Misuse
 finished Empty = Err NoCommand
+finished AwaitingTable = Err NoTable
+finished (AwaitingReading t) = Err NoReading
 finished (Reading c o) = Ok (Read c o)
 finished (Awaiting l c o) = Err NoNumber
 finished (Settled r) = r
@@ -103,3 +93,5 @@ misuse_text NoCommand = codes "no command"
 misuse_text UnknownCommand = codes "no such command"
 misuse_text UnknownOption = codes "no such option"
 misuse_text NoNumber = codes "--bytes and --slots take a number"
+misuse_text NoTable = codes "walk takes types, filters, functions, globals, function:N or entry:N"
+misuse_text NoReading = codes "walk takes depth or steady behind the table"

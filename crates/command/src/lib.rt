@@ -2,7 +2,9 @@
 #![tactic(auto)]
 
 ghost use Rattle.std.specs.Prelude.{◌≡◌, Some, string_bytes};
-ghost use Rattle.command.specs.Command.{word_of, digit_more, number_in, limit_given, option_of, command_of, next_of, finished, parsed, misuse_text};
+ghost use Rattle.command.specs.Command.{word_of, limit_given, option_of, command_of, next_of, finished, parsed, misuse_text};
+ghost use Rattle.command.specs.Numbers.{digit_more, number_in, short_in};
+ghost use Rattle.command.specs.Named.{body_of, table_of, reading_of, table_given, reading_given};
 
 use std::error::Error;
 use std::fmt;
@@ -26,6 +28,24 @@ pub enum Word {
     Unknown,
 }
 
+/// A table that is walked; of functions and entry points, the expressions of the one with a number.
+#[derive(Clone, Copy, PartialEq, Eq, Debug)]
+pub enum TableName {
+    Types,
+    Filters,
+    Functions,
+    Globals,
+    Function(u32),
+    EntryPoint(u32),
+}
+
+/// The reading that a table is walked by.
+#[derive(Clone, Copy, PartialEq, Eq, Debug)]
+pub enum ReadingName {
+    Depth,
+    Steady,
+}
+
 /// What is done with the inputs.
 #[derive(Clone, Copy, PartialEq, Eq, Debug)]
 pub enum Command {
@@ -35,6 +55,8 @@ pub enum Command {
     Check,
     /// Only whether it is sealed is reported.
     Seal,
+    /// It is sealed, and one table is walked.
+    Walk(TableName, ReadingName),
 }
 
 /// How it is done.
@@ -66,6 +88,10 @@ pub enum Misuse {
     UnknownOption,
     /// An option lacks its number.
     NoNumber,
+    /// `walk` lacks its table.
+    NoTable,
+    /// `walk` lacks its reading.
+    NoReading,
 }
 
 /// What is wrong, in words.
@@ -78,6 +104,10 @@ impl Display for Misuse {
             Misuse::UnknownCommand => "no such command",
             Misuse::UnknownOption => "no such option",
             Misuse::NoNumber => "--bytes and --slots take a number",
+            Misuse::NoTable => {
+                "walk takes types, filters, functions, globals, function:N or entry:N"
+            }
+            Misuse::NoReading => "walk takes depth or steady behind the table",
         })
     }
 }
@@ -115,6 +145,10 @@ enum Limit {
 enum Progress {
     /// There is none.
     Empty,
+    /// `walk` came, whose table is next.
+    AwaitingTable,
+    /// The table came, whose reading is next.
+    AwaitingReading(TableName),
     Reading(Command, Options),
     /// An option came whose number is next.
     Awaiting(Limit, Command, Options),
@@ -132,6 +166,7 @@ fn take_command(text: &str) -> Progress
         "report" => Progress::Reading(Command::Report, Options::default()),
         "check" => Progress::Reading(Command::Check, Options::default()),
         "seal" => Progress::Reading(Command::Seal, Options::default()),
+        "walk" => Progress::AwaitingTable,
         "--help" | "-h" => Progress::Settled(Ok(Request::Help)),
         "--version" => Progress::Settled(Ok(Request::Version)),
         _ => Progress::Settled(Err(Misuse::UnknownCommand)),
@@ -185,16 +220,77 @@ fn add_digit(number: Option<usize>, digit: u8) -> Option<usize>
 
 /// The number that decimal digits write.
 // Not by `parse`, which takes a `+` in front: the number of an option has none.
-fn read_number(text: &str) -> Option<usize>
-    ensures { result ≡ number_in text.now }
+fn read_number(digits: &[u8]) -> Option<usize>
+    ensures { result ≡ number_in digits.now }
 {
-    let digits = text.as_bytes();
     if digits.is_empty() {
         return None;
     }
     digits
         .iter()
         .fold(Some(0), |number, digit| add_digit(number, *digit))
+}
+
+/// The number that decimal digits write, if it is below 2^32.
+fn read_short(digits: &[u8]) -> Option<u32>
+    ensures { result ≡ short_in digits.now }
+{
+    u32::try_from(read_number(digits)?).ok()
+}
+
+/// The function or entry point that a word names.
+fn read_body(word: &[u8]) -> Option<TableName>
+    ensures { result ≡ body_of word.now }
+{
+    if let Some(digits) = word.strip_prefix(b"function:") {
+        return Some(TableName::Function(read_short(digits)?));
+    }
+    let digits = word.strip_prefix(b"entry:")?;
+    Some(TableName::EntryPoint(read_short(digits)?))
+}
+
+/// The table that a word names.
+fn read_table(text: &str) -> Option<TableName>
+    ensures { result ≡ table_of text.now }
+{
+    match text {
+        "types" => Some(TableName::Types),
+        "filters" => Some(TableName::Filters),
+        "functions" => Some(TableName::Functions),
+        "globals" => Some(TableName::Globals),
+        _ => read_body(text.as_bytes()),
+    }
+}
+
+/// The reading that a word names.
+fn read_reading(text: &str) -> Option<ReadingName>
+    ensures { result ≡ reading_of text.now }
+{
+    match text {
+        "depth" => Some(ReadingName::Depth),
+        "steady" => Some(ReadingName::Steady),
+        _ => None,
+    }
+}
+
+/// The word behind `walk`.
+fn take_table(table: Option<TableName>) -> Progress
+    ensures { result ≡ table_given table }
+{
+    match table {
+        Some(table) => Progress::AwaitingReading(table),
+        None => Progress::Settled(Err(Misuse::NoTable)),
+    }
+}
+
+/// The word behind the table.
+fn take_reading(table: TableName, reading: Option<ReadingName>) -> Progress
+    ensures { result ≡ reading_given table reading }
+{
+    match reading {
+        Some(reading) => Progress::Reading(Command::Walk(table, reading), Options::default()),
+        None => Progress::Settled(Err(Misuse::NoReading)),
+    }
 }
 
 /// The word behind an option that takes a number.
@@ -215,9 +311,11 @@ impl Progress {
     {
         match self {
             Progress::Empty => take_command(text),
+            Progress::AwaitingTable => take_table(read_table(text)),
+            Progress::AwaitingReading(table) => take_reading(table, read_reading(text)),
             Progress::Reading(command, options) => take_option(Word::from(text), command, options),
             Progress::Awaiting(limit, command, options) => {
-                take_limit(limit, read_number(text), command, options)
+                take_limit(limit, read_number(text.as_bytes()), command, options)
             }
             Progress::Settled(outcome) => Progress::Settled(outcome),
         }
@@ -229,6 +327,8 @@ impl Progress {
     {
         match self {
             Progress::Empty => Err(Misuse::NoCommand),
+            Progress::AwaitingTable => Err(Misuse::NoTable),
+            Progress::AwaitingReading(_) => Err(Misuse::NoReading),
             Progress::Reading(command, options) => Ok(Request::Read(command, options)),
             Progress::Awaiting(..) => Err(Misuse::NoNumber),
             Progress::Settled(outcome) => outcome,
@@ -355,6 +455,78 @@ mod tests {
             parsed(heap, "report a --help --unknown")?,
             Ok(Request::Help)
         );
+        Ok(())
+    }
+
+    /// A walk of this table by this reading, on a named input.
+    fn walk(table: TableName, reading: ReadingName) -> Result<Request, Misuse> {
+        Ok(Request::Read(Command::Walk(table, reading), named_input()))
+    }
+
+    #[test]
+    fn walks(rt: HostRuntime) -> Result<(), Fail> {
+        let heap = rt.alloc();
+        let plain = Options {
+            plain: true,
+            ..named_input()
+        };
+        assert_eq!(rt;
+            parsed(heap, "walk types depth a")?,
+            walk(TableName::Types, ReadingName::Depth)
+        );
+        assert_eq!(rt;
+            parsed(heap, "walk filters steady a")?,
+            walk(TableName::Filters, ReadingName::Steady)
+        );
+        assert_eq!(rt;
+            parsed(heap, "walk functions depth a")?,
+            walk(TableName::Functions, ReadingName::Depth)
+        );
+        assert_eq!(rt;
+            parsed(heap, "walk globals steady a")?,
+            walk(TableName::Globals, ReadingName::Steady)
+        );
+        assert_eq!(rt;
+            parsed(heap, "walk function:0 depth a")?,
+            walk(TableName::Function(0), ReadingName::Depth)
+        );
+        assert_eq!(rt;
+            parsed(heap, "walk entry:4294967295 steady a --plain")?,
+            Ok(Request::Read(
+                Command::Walk(TableName::EntryPoint(4_294_967_295), ReadingName::Steady),
+                plain
+            ))
+        );
+        Ok(())
+    }
+
+    #[test]
+    fn no_walks(rt: HostRuntime) -> Result<(), Fail> {
+        let heap = rt.alloc();
+        for line in [
+            "walk",
+            "walk type depth",
+            "walk --help depth",
+            "walk function depth",
+            "walk function: depth",
+            "walk function:+1 depth",
+            "walk function:-1 depth",
+            "walk function:1x depth",
+            "walk function:4294967296 depth",
+            "walk entry: depth",
+            "walk entry:0x1 depth",
+            "walk entry:18446744073709551617 depth",
+            "walk Types depth",
+        ] {
+            assert_eq!(rt; parsed(heap, line)?, Err(Misuse::NoTable), "{line}");
+        }
+        for line in [
+            "walk types",
+            "walk entry:1 deep a",
+            "walk types --plain depth a",
+        ] {
+            assert_eq!(rt; parsed(heap, line)?, Err(Misuse::NoReading), "{line}");
+        }
         Ok(())
     }
 }

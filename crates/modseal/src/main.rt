@@ -1,16 +1,13 @@
 //! Reads images of shader modules, and reports their records.
 #![tactic(auto)]
 
-mod drafts;
-mod named;
 mod report;
-mod show;
-mod verdict;
+mod walking;
 
-use crate::drafts::{AnyDraft, FixedDraft};
 use crate::report::Reporter;
-use crate::verdict::Question;
+use any_draft::drafts::{AnyDraft, FixedDraft};
 use command::{Command, Misuse, Options, Request, Word, parse};
+use images::question::Question;
 use owned::owned::OwnedDraft;
 use records::image::Records;
 use std::io::{BufWriter, Read, Write};
@@ -22,6 +19,7 @@ const HELP: &str = "modseal: reads images of shader modules
 usage: modseal report [OPTION...] [FILE...]
        modseal check [OPTION...] [FILE...]
        modseal seal [OPTION...] [FILE...]
+       modseal walk TABLE READING [OPTION...] [FILE...]
        modseal --help | -h | --version
 
 report puts each record of each FILE, or of standard input where no FILE is named
@@ -30,16 +28,22 @@ the number that it got and its fields, or the number of its refusal, which ends
 the report of that image; at last how many items each table has, what each number
 names, whether the module of what was kept passes the check and is sealed, and if it
 is a row of its types, overrides, constants and global expressions, each after all
-of these that its handles point to
+of these that its handles point to, and the values of each of its tables by both
+readings, with how many items they have and how many operands were taken
 
 check prints one line for each FILE, NAME: check passed, or why it is refused by the
 draft or the check; the status is 1 where one is refused; seal does likewise, and
 tests also what the check leaves out
 
+walk seals each FILE and prints the values of one table by one reading, or why it is
+refused; TABLE is types, filters, functions, globals, function:N or entry:N, READING
+is depth or steady
+
 --plain       one line a record: record INDEX KIND NUMBER, or
               record INDEX KIND refused NUMBER; at last check passed, or
               check NUMBER KIND FIRST SECOND POSITION, the same for seal, and
-              row TABLE:NUMBER... where the module is sealed
+              row TABLE:NUMBER... and walk TABLE READING ITEMS TAKES VALUE...
+              where the module is sealed
               (check, seal: NAME: check passed, or
               NAME: check NUMBER KIND FIRST SECOND POSITION)
 --keep-going  report: go on behind a refused record
@@ -52,6 +56,14 @@ fn read_input(rt: &HostRuntime) -> io::Result<Vec<u8>> {
     Ok(image)
 }
 
+/// How many words a command takes up; behind them stand options and inputs.
+fn command_words(command: Command) -> usize {
+    match command {
+        Command::Report | Command::Check | Command::Seal => 1,
+        Command::Walk(..) => 3,
+    }
+}
+
 /// What is done with the inputs, on standard output.
 #[derive(Clone, Copy)]
 struct Inputs<'a> {
@@ -61,7 +73,7 @@ struct Inputs<'a> {
 }
 
 impl Inputs<'_> {
-    /// Reports, checks or seals an image; whether it passes what is asked for.
+    /// Reports, checks, seals or walks an image; whether it passes what is asked for.
     fn read_into<W: Write, D: AnyDraft + Drop>(
         &self,
         reporter: &mut Reporter<'_, W>,
@@ -76,10 +88,11 @@ impl Inputs<'_> {
             }
             Command::Check => reporter.ask(Question::Check, name, image, draft),
             Command::Seal => reporter.ask(Question::Seal, name, image, draft),
+            Command::Walk(table, reading) => reporter.walk(table, reading, name, image, draft),
         }
     }
 
-    /// Reports, checks or seals an image, in memory that grows unless an option fixes it; whether it passes
+    /// Reports, checks, seals or walks an image, in memory that grows unless an option fixes it; whether it passes
     /// what is asked for.
     fn read_image(&self, name: &str, image: &[u8]) -> io::Result<bool> {
         let heap = self.rt.alloc();
@@ -106,7 +119,7 @@ impl Inputs<'_> {
         Ok(passed)
     }
 
-    /// Reports, checks or seals one input; whether it could be read, and passes.
+    /// Reports, checks, seals or walks one input; whether it could be read, and passes.
     // A `bool` and no error: what went wrong is written here, and the other inputs follow.
     fn take_input(&self, name: &str, word: Word) -> io::Result<bool> {
         let read = match word {
@@ -122,7 +135,7 @@ impl Inputs<'_> {
         }
     }
 
-    /// Reports, checks or seals every input that the words behind the command name; whether all could be read, and
+    /// Reports, checks, seals or walks every input that the words behind the command name; whether all could be read, and
     /// pass.
     // The words are read again for the names: the options are `Copy` and hold no text.
     fn take_all(&self, words: &[String]) -> io::Result<bool> {
@@ -130,7 +143,7 @@ impl Inputs<'_> {
             return self.take_input("-", Word::StandardInput);
         }
         let mut all = true;
-        let mut words = words.iter().skip(1);
+        let mut words = words.iter().skip(command_words(self.command));
         while let Some(name) = words.next() {
             match Word::from(name.as_str()) {
                 Word::Bytes | Word::Slots => {
@@ -153,6 +166,8 @@ fn complain(rt: &HostRuntime, words: &[String], misuse: Misuse) -> io::Result<()
         Misuse::UnknownOption => words
             .iter()
             .find(|word| Word::from(word.as_str()) == Word::Unknown),
+        Misuse::NoTable => words.get(1),
+        Misuse::NoReading => words.get(2),
         Misuse::NoCommand | Misuse::NoNumber => None,
     };
     match wrong {

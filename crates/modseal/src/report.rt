@@ -1,15 +1,17 @@
 //! The report of one image.
 ghost use Rattle.seal.specs.Sealed.{IsSealedDraft};
 
-use crate::drafts::{AnyDraft, Outcome};
-use crate::named::show_names;
-use crate::show::{Fields, Numbered, Totals};
-use crate::verdict;
-use crate::verdict::Question;
+use any_draft::drafts::{AnyDraft, Outcome};
 use arena::answer::answered_number;
 use arena::view::View;
 use command::Options;
+use draft::refusal::Refusal;
+use images::question::Question;
 use module_row::rows::row;
+use module_text::named::show_names;
+use module_text::show::{Fields, Numbered, Totals};
+use module_text::verdict;
+use module_text::verdict::word;
 use records::image::{Record, Records};
 use seal::sealed::Sealed;
 use std::alloc::Global;
@@ -95,7 +97,7 @@ impl<W: Write> Reporter<'_, W> {
     }
 
     /// Shows an answer of a draft.
-    fn show_answer(&mut self, answer: verdict::Plain, view: View<'_>) -> io::Result<()> {
+    pub(crate) fn show_answer(&mut self, answer: verdict::Plain, view: View<'_>) -> io::Result<()> {
         if self.options.plain {
             writeln!(self.out, "{answer}")
         } else {
@@ -125,7 +127,10 @@ impl<W: Write> Reporter<'_, W> {
         let sealed = draft.sealed();
         self.show_answer(verdict::Plain::sealed(&sealed), view)?;
         match sealed {
-            Ok(sealed) => self.show_row(&sealed),
+            Ok(sealed) => {
+                self.show_row(&sealed)?;
+                self.show_walks(&sealed)
+            }
             Err(_) => Ok(()),
         }
     }
@@ -151,6 +156,43 @@ impl<W: Write> Reporter<'_, W> {
         self.show_end(&draft)
     }
 
+    /// Shows on one line that a draft refused a record.
+    fn show_refusal(
+        &mut self,
+        question: Question,
+        name: &str,
+        index: usize,
+        refusal: Refusal,
+    ) -> io::Result<()> {
+        let (question, number) = (word(question), refusal.number());
+        if self.options.plain {
+            writeln!(self.out, "{name}: {question} {number} 0 0 0 0")
+        } else {
+            writeln!(
+                self.out,
+                "{name}: record {index} refused {number}: {refusal}"
+            )
+        }
+    }
+
+    /// Puts each record of an image into a draft, up to the first that it refuses, which is shown; whether it
+    /// refuses none.
+    pub(crate) fn put_all<D: AnyDraft>(
+        &mut self,
+        question: Question,
+        name: &str,
+        image: &[u8],
+        draft: &mut D,
+    ) -> io::Result<bool> {
+        for (index, record) in Records::new(image).enumerate() {
+            if let Err(refusal) = draft.put(record.bytes)? {
+                self.show_refusal(question, name, index, refusal)?;
+                return Ok(false);
+            }
+        }
+        Ok(true)
+    }
+
     /// Puts each record of an image into a new draft, up to the first that it refuses, and shows on one line
     /// what the draft answers to a question; whether it passes.
     pub fn ask<D: AnyDraft + Drop>(
@@ -160,19 +202,8 @@ impl<W: Write> Reporter<'_, W> {
         image: &[u8],
         mut draft: D,
     ) -> io::Result<bool> {
-        for (index, record) in Records::new(image).enumerate() {
-            if let Err(refusal) = draft.put(record.bytes)? {
-                let number = refusal.number();
-                if self.options.plain {
-                    writeln!(self.out, "{name}: {question} {number} 0 0 0 0")?;
-                } else {
-                    writeln!(
-                        self.out,
-                        "{name}: record {index} refused {number}: {refusal}"
-                    )?;
-                }
-                return Ok(false);
-            }
+        if !self.put_all(question, name, image, &mut draft)? {
+            return Ok(false);
         }
         let answer = verdict::Plain::of(question, &draft);
         write!(self.out, "{name}: ")?;

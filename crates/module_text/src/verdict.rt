@@ -1,39 +1,23 @@
 //! What the check and sealing answer to a draft.
-use crate::drafts::AnyDraft;
+ghost use Rattle.std.specs.Prelude.{◌≡◌, is_ok};
+ghost use Rattle.std.specs.Result.{result_err};
+ghost use Rattle.draft.specs.State.{state};
+ghost use Rattle.images.specs.Answer.{asked};
+
+use any_draft::drafts::AnyDraft;
 use arena::view::View;
+use images::question::Question;
 use records::image::Record;
 use rules::faults::{Fault, FaultKind, Rejection, Rule};
 use seal::sealed::Sealed;
 use std::fmt;
 use std::fmt::Display;
-use valid::check::check;
 
-/// What a draft is asked.
-#[derive(Clone, Copy)]
-pub enum Question {
-    Check,
-    Seal,
-}
-
-impl Question {
-    /// What a draft answers to it.
-    fn put_to<D: AnyDraft>(self, draft: &D) -> Result<(), Rejection> {
-        match self {
-            Question::Check => check(draft.view()),
-            Question::Seal => {
-                let _sealed = draft.sealed()?;
-                Ok(())
-            }
-        }
-    }
-}
-
-impl Display for Question {
-    fn fmt<W: fmt::Write>(&self, f: &mut fmt::Formatter<W>) -> fmt::Result {
-        f.write_str(match self {
-            Question::Check => "check",
-            Question::Seal => "seal",
-        })
+/// The word of a question.
+pub fn word(question: Question) -> &'static str {
+    match question {
+        Question::Check => "check",
+        Question::Seal => "seal",
     }
 }
 
@@ -46,15 +30,21 @@ pub struct Plain {
 
 impl Plain {
     /// That of a draft.
-    pub fn of<D: AnyDraft>(question: Question, draft: &D) -> Plain {
+    pub fn of<D: AnyDraft>(question: Question, draft: &D) -> Plain
+        ensures named { result.question ≡ question }
+        ensures answer { result_err result.answer ≡ asked question (state (D.kept draft.now)) }
+    {
         Plain {
             question,
-            answer: question.put_to(draft),
+            answer: draft.ask(question),
         }
     }
 
     /// That of sealing, where it is known.
-    pub fn sealed(sealed: &Result<Sealed<'_>, Rejection>) -> Plain {
+    pub fn sealed(sealed: &Result<Sealed<'_>, Rejection>) -> Plain
+        ensures named { result.question ≡ Question.Seal }
+        ensures answer { result_err result.answer ≡ result_err sealed.now }
+    {
         let answer = match sealed {
             Ok(_) => Ok(()),
             Err(rejection) => Err(*rejection),
@@ -65,15 +55,28 @@ impl Plain {
         }
     }
 
+    /// That of sealing, where it refuses.
+    pub fn unsealed(rejection: Rejection) -> Plain
+        ensures named { result.question ≡ Question.Seal }
+        ensures answer { result.answer ≡ Err rejection }
+    {
+        Plain {
+            question: Question::Seal,
+            answer: Err(rejection),
+        }
+    }
+
     /// Whether the draft passes.
-    pub fn is_passed(self) -> bool {
+    pub fn is_passed(self) -> bool
+        ensures { result ≡ is_ok self.answer }
+    {
         self.answer.is_ok()
     }
 }
 
 impl Display for Plain {
     fn fmt<W: fmt::Write>(&self, f: &mut fmt::Formatter<W>) -> fmt::Result {
-        let question = self.question;
+        let question = word(self.question);
         match self.answer {
             Ok(()) => write!(f, "{question} passed"),
             Err(rejection) => {
@@ -150,7 +153,10 @@ pub struct Full<'a> {
 
 impl<'a> Full<'a> {
     /// Those of an answer to the draft that is viewed.
-    pub fn of(answer: Plain, view: View<'a>) -> Full<'a> {
+    pub fn of(answer: Plain, view: View<'a>) -> Full<'a>
+        ensures answer { result.answer ≡ answer }
+        ensures view { result.view ≡ view.entry }
+    {
         Full { answer, view }
     }
 }
@@ -158,6 +164,7 @@ impl<'a> Full<'a> {
 impl Display for Full<'_> {
     fn fmt<W: fmt::Write>(&self, f: &mut fmt::Formatter<W>) -> fmt::Result {
         let Plain { question, answer } = self.answer;
+        let question = word(question);
         match answer {
             Ok(()) => write!(f, "{question} passed"),
             Err(rejection) => {

@@ -11,13 +11,15 @@ ghost use Rattle.sealing.specs.Seal.{seal_of};
 ghost use Rattle.seal.specs.Sealed.{IsSealedDraft, sealed_records};
 ghost use Rattle.owned.specs.Kept.{kept_in};
 ghost use Rattle.owned.specs.Putting.{put_all};
-ghost use Rattle.modseal.specs.Putting.{Put, PutOrFails};
+ghost use Rattle.images.specs.Answer.{asked};
+ghost use Rattle.any_draft.specs.Putting.{Put, PutOrFails};
 
 use arena::Draft;
 use arena::slot::Slot;
 use arena::view::View;
 use draft::counts::Counts;
 use draft::refusal::Refusal;
+use images::question::Question;
 use ir::handle::Handle;
 use owned::denial::Denial;
 use owned::owned::OwnedDraft;
@@ -49,6 +51,10 @@ pub trait AnyDraft {
     /// Its kept records.
     fn view(&self) -> View<'_>
         ensures { viewed result ≡ kept self.now };
+
+    /// What it answers to a question, staying as it is.
+    fn ask(&self, question: Question) -> Result<(), Rejection>
+        ensures { result_err result ≡ asked question (state (kept self.now)) };
 
     /// The draft sealed, or why it is not.
     fn sealed(&self) -> Result<Sealed<'_>, Rejection>
@@ -99,6 +105,10 @@ impl AnyDraft for FixedDraft {
             .view(self.bytes.as_slice(), self.slots.as_slice())
     }
 
+    fn ask(&self, question: Question) -> Result<(), Rejection> {
+        question.ask(&self.draft, self.bytes.as_slice(), self.slots.as_slice())
+    }
+
     fn sealed(&self) -> Result<Sealed<'_>, Rejection> {
         seal(&self.draft, self.bytes.as_slice(), self.slots.as_slice())
     }
@@ -124,6 +134,11 @@ impl AnyDraft for OwnedDraft {
 
     fn view(&self) -> View<'_> {
         OwnedDraft::view(self)
+    }
+
+    fn ask(&self, question: Question) -> Result<(), Rejection> {
+        let (draft, bytes, slots) = self.parts();
+        question.ask(draft, bytes, slots)
     }
 
     fn sealed(&self) -> Result<Sealed<'_>, Rejection> {

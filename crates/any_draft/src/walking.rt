@@ -1,0 +1,46 @@
+//! Seals a draft and walks one of its tables.
+ghost use Rattle.std.specs.Prelude.{◌≡◌, IfOk, MatchResult, None};
+ghost use Rattle.draft.specs.State.{state};
+ghost use Rattle.sealing.specs.Seal.{seal_of};
+ghost use Rattle.sealed_walk.specs.Walking.{nodes_of};
+ghost use Rattle.walks.specs.Walks.{IsWalkOf};
+ghost use Rattle.any_draft.specs.Walking.{IsDenied};
+
+use crate::drafts::AnyDraft;
+use rules::faults::Rejection;
+use sealed_walk::walking::DraftTable;
+use std::alloc::{AllocError, Global};
+use walk::reading::Reading;
+use walk::walk::WalkRefusal;
+use walks::one_walk::walk_one;
+use walks::table_walk::TableWalk;
+
+/// Why no table of a draft is walked.
+#[derive(Clone, Copy)]
+pub enum NoWalk {
+    /// It is not sealed.
+    Rejected(Rejection),
+    /// The walk refuses.
+    Refused(WalkRefusal),
+}
+
+/// The values of a table of a draft by a reading, where it is sealed and has that table.
+// Results in one another: what is denied is an answer to show, and only want of memory an error.
+pub fn seal_and_walk<D: AnyDraft, R: Reading>(
+    heap: Global,
+    draft: &D,
+    table: DraftTable,
+    reading: &R,
+) -> Result<Result<TableWalk<R::Value>, NoWalk>, AllocError>
+where
+    R::Value: Clone + Default,
+    ensures { let s = state (D.kept draft.now) in let nodes = nodes_of table s.built in IfOk result (λ answer. MatchResult answer (λ w. (seal_of s ≡ None) × IsWalkOf (R.steps reading.now) nodes w.values.items w.tally) (IsDenied (seal_of s) nodes)) }
+{
+    match draft.sealed() {
+        Err(rejection) => Ok(Err(NoWalk::Rejected(rejection))),
+        Ok(sealed) => match walk_one(heap, sealed, table, reading)? {
+            Ok(walk) => Ok(Ok(walk)),
+            Err(refusal) => Ok(Err(NoWalk::Refused(refusal))),
+        },
+    }
+}

@@ -1,0 +1,3 @@
+pub mod Few
+pub mod FirstValues
+pub mod Pushed
