@@ -1,5 +1,5 @@
 -- The words behind `walk`: a table and a reading.
-use Rattle.std.specs.Prelude.{ℕ, Bool, false, cond, List, length, take, drop, Some, None, Ok, Err, codes, Option}
+use Rattle.std.specs.Prelude.{ℕ, Bool, false, cond, List, length, take, drop, Some, None, Err, codes, Option}
 use Rattle.std.specs.Option.{option_map}
 use Rattle.std.specs.Str.{bytes_eq}
 use Rattle.command.specs.declared.Command.TheVariants.{Walk}

@@ -194,3 +194,49 @@ pub fn refusal_words(refusal: WalkRefusal) -> &'static str {
         WalkRefusal::TooFewPlaces => "fewer places than items",
     }
 }
+
+#[cfg(test)]
+mod tests {
+    use super::*;
+    use std::test::Fail;
+
+    #[test]
+    fn depths(rt: HostRuntime) -> Result<(), Fail> {
+        let heap = rt.alloc();
+        let walk = TableWalk {
+            values: vec![in heap; 1; 17]?,
+            tally: Tally {
+                items: 17,
+                takes: 0,
+            },
+        };
+        let line = format!(in heap; "{}", Plain::depth(TableName::Function(7), &walk))?;
+        assert_eq!(rt;
+            line.as_str(),
+            "walk function:7 depth 17 0 1 1 1 1 1 1 1 1 1 1 1 1 1 1 1 1 1"
+        );
+        let words = format!(in heap; "{}", Full(Plain::depth(TableName::Globals, &walk)))?;
+        assert_eq!(rt;
+            words.as_str(),
+            "walk of global expressions, depth: items 17, takes 0\n  1 1 1 1 1 1 1 1 1 1 1 1 1 1 1 1\n  1"
+        );
+        Ok(())
+    }
+
+    #[test]
+    fn steady_items(rt: HostRuntime) -> Result<(), Fail> {
+        let heap = rt.alloc();
+        let walk = TableWalk {
+            values: vec![in heap; true, false]?,
+            tally: Tally { items: 2, takes: 1 },
+        };
+        let line = format!(in heap; "{}", Plain::steady(TableName::EntryPoint(0), &walk))?;
+        assert_eq!(rt; line.as_str(), "walk entry:0 steady 2 1 1 0");
+        let words = format!(in heap; "{}", Full(Plain::steady(TableName::EntryPoint(0), &walk)))?;
+        assert_eq!(rt;
+            words.as_str(),
+            "walk of entry point 0, steady: items 2, takes 1\n  yes no"
+        );
+        Ok(())
+    }
+}
