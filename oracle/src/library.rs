@@ -75,6 +75,17 @@ impl From<Verdict> for Walked {
     }
 }
 
+/// The numbers of the tables that can be walked, and the first that is none.
+pub mod table {
+    pub const TYPES: u32 = 0;
+    pub const FILTERS: u32 = 1;
+    pub const FUNCTIONS: u32 = 2;
+    pub const GLOBAL_EXPRESSIONS: u32 = 3;
+    pub const FUNCTION_BODY: u32 = 4;
+    pub const ENTRY_POINT_BODY: u32 = 5;
+    pub const NO_TABLE: u32 = 6;
+}
+
 /// The table that a walk is asked for: its number, and that of the body.
 #[derive(Clone, Copy, Debug)]
 pub struct Table {

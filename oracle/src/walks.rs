@@ -2,6 +2,9 @@
 //! values.
 use crate::decode::Memory;
 use crate::jobs::{self, Outcome};
+use crate::library::table::{
+    ENTRY_POINT_BODY, FILTERS, FUNCTIONS, FUNCTION_BODY, GLOBAL_EXPRESSIONS, NO_TABLE, TYPES,
+};
 use crate::library::{self, Table, Walked};
 use crate::readings::{depths, steady, takes, Node};
 use crate::report::{self, greatest, sums};
@@ -21,14 +24,6 @@ const TABLES: [&str; 6] = [
     "in functions",
     "in entries",
 ];
-
-const TYPES: u32 = 0;
-const FILTERS: u32 = 1;
-const FUNCTIONS: u32 = 2;
-const GLOBAL_EXPRESSIONS: u32 = 3;
-const FUNCTION_BODY: u32 = 4;
-const ENTRY_POINT_BODY: u32 = 5;
-const NO_TABLE: u32 = 6;
 
 /// Of how many functions, and of how many entry points, of a module the bodies are walked: the last ones.
 const BODIES: usize = 40;
@@ -141,9 +136,11 @@ struct Wrong {
     places: usize,
     answered: Walked,
     expected: Walked,
-    /// The first place that holds the wrong value: its number, that value and the right one.
-    value: Option<(usize, String, String)>,
+    /// The first place that holds a wrong value.
+    value: Option<String>,
 }
+
+type Tested = Result<(), Box<Wrong>>;
 
 impl fmt::Display for Wrong {
     fn fmt(&self, f: &mut fmt::Formatter<'_>) -> fmt::Result {
@@ -154,9 +151,7 @@ impl fmt::Display for Wrong {
             self.reading, self.places, self.answered, self.expected
         )?;
         match &self.value {
-            Some((place, left, right)) => {
-                write!(f, ", place {place} library {left} reference {right}")
-            }
+            Some(value) => write!(f, ", {value}"),
             None => Ok(()),
         }
     }
@@ -177,49 +172,29 @@ struct Image<'a> {
 
 impl Image<'_> {
     /// Asks for a walk that must answer this and leave these values, and behind them what the places held before.
-    fn ask<V: Value>(
-        self,
-        table: Table,
-        places: usize,
-        expected: Walked,
-        values: &[V],
-    ) -> Result<(), Wrong> {
+    fn ask<V: Value>(self, table: Table, places: usize, expected: Walked, values: &[V]) -> Tested {
         let mut left: Vec<V> = (0..places).map(V::unwritten).collect();
-        let behind = left[values.len()..].to_vec();
+        let right = [values, &left[values.len()..]].concat();
         let answered = V::walk(self.bytes, self.memory, table, &mut left);
-        let right = values.iter().chain(&behind);
-        let value = left
-            .iter()
-            .zip(right)
-            .position(|(left, right)| left != right);
+        let value = (0..places).find(|&place| left[place] != right[place]);
         if answered == expected && value.is_none() {
             return Ok(());
         }
-        Err(Wrong {
+        Err(Box::new(Wrong {
             reading: V::READING,
             table,
             places,
             answered,
             expected,
             value: value.map(|place| {
-                let right = values.iter().chain(&behind).nth(place);
-                (
-                    place,
-                    left[place].to_string(),
-                    right.map(V::to_string).unwrap_or_default(),
-                )
+                let (left, right) = (left[place], right[place]);
+                format!("place {place}: library {left} reference {right}")
             }),
-        })
+        }))
     }
 
     /// Asks for a walk that is refused, by one of the readings.
-    fn ask_refused(
-        self,
-        depth: bool,
-        table: Table,
-        places: usize,
-        verdict: Verdict,
-    ) -> Result<(), Wrong> {
+    fn ask_refused(self, depth: bool, table: Table, places: usize, verdict: Verdict) -> Tested {
         if depth {
             self.ask::<u32>(table, places, verdict.into(), &[])
         } else {
@@ -268,25 +243,22 @@ pub struct Walks {
     no_such_body: u64,
     too_few_places: u64,
     /// The images on which a walk is wrong.
-    wrong: Vec<(Vec<u8>, Wrong)>,
+    wrong: Vec<(Vec<u8>, Box<Wrong>)>,
 }
 
 impl Outcome for Walks {
     fn add(&mut self, number: u64, image: Vec<u8>, memory: Memory) {
         self.images += 1;
+        let asked = |memory| Image {
+            bytes: &image,
+            memory,
+        };
         let tested = match reference::sealed_module(&image, memory) {
-            Ok(module) => {
-                let memory = match number.is_multiple_of(LARGE_EACH) {
-                    true => Memory::LARGE,
-                    false => memory,
-                };
-                let bytes = &image;
-                self.test_walks(number as usize, Image { bytes, memory }, &module)
+            Ok(module) if number.is_multiple_of(LARGE_EACH) => {
+                self.test_walks(number as usize, asked(Memory::LARGE), &module)
             }
-            Err(verdict) => {
-                let bytes = &image;
-                test_refused(number, Image { bytes, memory }, verdict)
-            }
+            Ok(module) => self.test_walks(number as usize, asked(memory), &module),
+            Err(verdict) => test_refused(number as usize, asked(memory), verdict),
         };
         if let Err(wrong) = tested {
             self.wrong.push((image, wrong));
@@ -310,12 +282,12 @@ impl Outcome for Walks {
 }
 
 /// A walk of an image that put or sealing refuses, of one of the tables or of none.
-fn test_refused(number: u64, image: Image<'_>, verdict: Verdict) -> Result<(), Wrong> {
+fn test_refused(number: usize, image: Image<'_>, verdict: Verdict) -> Tested {
     let table = Table {
-        number: (number % 7) as u32,
+        number: number as u32 % (NO_TABLE + 1),
         body: 0,
     };
-    image.ask_refused(number % 2 == 0, table, (number % 5) as usize, verdict)
+    image.ask_refused(number.is_multiple_of(2), table, number % 5, verdict)
 }
 
 impl Walks {
@@ -325,12 +297,7 @@ impl Walks {
 
     /// All tables of a module that sealing accepts by both readings, with up to three places more than items; and, by one
     /// of the readings, one place too few, bodies behind the last, and numbers of no table.
-    fn test_walks(
-        &mut self,
-        number: usize,
-        image: Image<'_>,
-        module: &Module,
-    ) -> Result<(), Wrong> {
+    fn test_walks(&mut self, number: usize, image: Image<'_>, module: &Module) -> Tested {
         self.walked += 1;
         let all = expected(module);
         for (at, expected) in all.iter().enumerate() {
@@ -341,13 +308,18 @@ impl Walks {
             self.counts[table.number as usize].add(expected);
             if items > 0 {
                 let verdict = Verdict::refused(TOO_FEW_PLACES);
-                image.ask_refused((number + at) % 2 == 0, table, items - 1, verdict)?;
+                image.ask_refused((number + at).is_multiple_of(2), table, items - 1, verdict)?;
                 self.too_few_places += 1;
             }
         }
         for (at, table) in missing(module, number as u32).into_iter().enumerate() {
             let verdict = Verdict::refused(NO_SUCH_BODY);
-            image.ask_refused((number + at) % 2 == 1, table, (number + at) % 3, verdict)?;
+            image.ask_refused(
+                (number + at).is_multiple_of(2),
+                table,
+                (number + at) % 3,
+                verdict,
+            )?;
             self.no_such_body += 1;
         }
         Ok(())
