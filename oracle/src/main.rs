@@ -19,6 +19,7 @@ mod library;
 mod limits;
 mod lists;
 mod locate;
+mod operands;
 mod orders;
 mod positions;
 mod random;
@@ -56,8 +57,8 @@ usage: oracle compare [--seed N] [--images N] [--jobs N]   compare the answers o
        oracle images                                      compare on the images on standard input, a line each
        oracle answers                                     print the answers to the images there: five numbers of the
                                                           check and five of sealing
-       oracle walks [--seed N] [--images N] [--jobs N]     compare the walks of tables on the catalogue, the limits, deep
-                                                          tables, and so many random images
+       oracle walks [--seed N] [--images N] [--jobs N]     compare the walks of tables on the catalogue, each operand,
+                                                          the limits, deep tables, and so many random images
        oracle walk                                        compare the walks on the images on standard input
        oracle vectors FOLDER [--seed N]                   write the recorded list to FOLDER/stdin and FOLDER/stdout
        oracle bench                                       measure both";
@@ -144,6 +145,7 @@ fn walk_all(options: &Options) -> ExitCode {
     let others = images / 4;
     let sources = [
         Source::catalogue(),
+        Source::operands(),
         Source::limits(),
         Source::large(),
         Source::chains(),

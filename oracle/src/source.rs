@@ -3,7 +3,7 @@ use crate::decode::Memory;
 use crate::generator::Scale;
 use crate::lists::{self, Lists};
 use crate::random::Random;
-use crate::{breaches, catalogue, chains, damage, generator, limits, orders, sealable};
+use crate::{breaches, catalogue, chains, damage, generator, limits, operands, orders, sealable};
 
 /// A numbered list of images.
 pub struct Source {
@@ -68,6 +68,10 @@ impl Source {
             memory: Memory::LARGE,
             ..Source::listed("large", limits::images(Memory::LARGE))
         }
+    }
+
+    pub fn operands() -> Self {
+        Source::listed("operands", operands::images())
     }
 
     pub fn chains() -> Self {
