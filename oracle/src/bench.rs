@@ -1,9 +1,11 @@
-//! Times of both checkers on the same modules.
+//! Times of both checkers on the same modules, and of both walks of the same tables.
 use crate::decode::{decode, Memory};
 use crate::layout::ABSENT;
-use crate::sample::{sample, Order};
+use crate::library::table::{FUNCTION_BODY, GLOBAL_EXPRESSIONS, NO_TABLE};
+use crate::library::{Table, Walked};
+use crate::sample::{long_body, long_table, sample, Order};
 use crate::writer::words;
-use crate::{library, reference};
+use crate::{library, readings, reference};
 use std::hint::black_box;
 use std::time::{Duration, Instant};
 
@@ -11,13 +13,22 @@ use std::time::{Duration, Instant};
 const LONG: Duration = Duration::from_millis(60);
 const ROUNDS: usize = 9;
 
-/// Prints a table of nanoseconds for each record. The thread needs `library::STACK`.
+/// How many walks over naga's module are made between two looks at the clock.
+const BATCH: u32 = 10;
+
+/// Prints a table of nanoseconds for each record, and one for each item of the tables that are walked. The thread needs `library::STACK`.
 pub fn run() {
     println!("records order          ours (put, check)        naga (arenas, check)  ratio");
     for size in [100, 1_000, 10_000, 100_000] {
         for order in [Order::Bodies, Order::Grouped, Order::Interleaved] {
             measure(size, order);
         }
+    }
+    println!();
+    println!("  items table   reading    ours    naga   ratio");
+    for size in [100, 1_000, 10_000, 100_000] {
+        measure_walks("body", FUNCTION_BODY, &long_body(size));
+        measure_walks("global", GLOBAL_EXPRESSIONS, &long_table(size));
     }
 }
 
@@ -87,4 +98,68 @@ fn times_of_naga(image: &[u8]) -> (Duration, Duration) {
         rounds += 1;
     }
     (arenas / rounds, check / rounds)
+}
+
+/// Prints the nanoseconds for each item of a table of expressions, by both readings.
+fn measure_walks(name: &str, number: u32, image: &[u8]) {
+    let module = reference::sealed_module(image, Memory::LARGE).expect("the sample is sealed");
+    let function = module.functions.iter().next();
+    let items = function.map_or(&module.global_expressions, |(_, it)| &it.expressions);
+    let count = items.len();
+    let memory = match image.len() <= Memory::SMALL.bytes && count + 2 <= Memory::SMALL.slots {
+        true => Memory::SMALL,
+        false => Memory::LARGE,
+    };
+    let print = |reading: &str, ours: Duration, naga: Duration| {
+        let each = |time: Duration| time.as_nanos() as f64 / count as f64;
+        let (ours, naga) = (each(ours), each(naga));
+        let ratio = ours / naga;
+        println!("{count:>7} {name:<7} {reading:<7} {ours:>7.1} {naga:>7.2} {ratio:>7.1}");
+    };
+    let nodes = || black_box(items).iter().map(|(_, item)| item);
+    let mut values = vec![0; count];
+    let depth = time_of_walk(number, |table| {
+        library::depth(black_box(image), memory, table, &mut values)
+    });
+    print("depth", depth, time_over_naga(|| readings::depths(nodes())));
+    let mut values = vec![0; count];
+    let steady = time_of_walk(number, |table| {
+        library::steady(black_box(image), memory, table, &mut values)
+    });
+    print(
+        "steady",
+        steady,
+        time_over_naga(|| readings::steady(nodes())),
+    );
+}
+
+/// The time of a walk. Each call seals the image anew, so that of a call for no table, which seals it and refuses, is
+/// taken away.
+fn time_of_walk(number: u32, mut walk: impl FnMut(Table) -> Walked) -> Duration {
+    let mut time = |number| {
+        let start = Instant::now();
+        black_box(walk(Table { number, body: 0 }));
+        start.elapsed()
+    };
+    let start = Instant::now();
+    let (mut with, mut without) = (Duration::MAX, Duration::MAX);
+    while start.elapsed() < LONG * ROUNDS as u32 {
+        with = with.min(time(number));
+        without = without.min(time(NO_TABLE));
+    }
+    with.saturating_sub(without)
+}
+
+/// The time of a walk over naga's module, with the list of values that it makes.
+fn time_over_naga<V>(walk: impl Fn() -> V) -> Duration {
+    let round = |_| {
+        let start = Instant::now();
+        let mut walks = 0;
+        while start.elapsed() < LONG {
+            (0..BATCH).for_each(|_| drop(black_box(walk())));
+            walks += BATCH;
+        }
+        start.elapsed() / walks
+    };
+    (0..ROUNDS).map(round).min().expect("there are rounds")
 }

@@ -8,13 +8,33 @@ type Operand = Handle<Expression>;
 
 /// The operands of an expression.
 pub fn operands(expression: &Expression) -> Vec<Operand> {
+    let mut found = Vec::new();
+    each_operand(expression, |operand| found.push(operand));
+    found
+}
+
+/// Goes through the operands of an expression.
+pub fn each_operand(expression: &Expression, visit: impl FnMut(Operand)) {
     match *expression {
-        Expression::Compose { ref components, .. } => components.clone(),
-        Expression::Access { base, index } => vec![base, index],
-        Expression::AccessIndex { base, .. } => vec![base],
-        Expression::Splat { value, .. } => vec![value],
-        Expression::Swizzle { vector, .. } => vec![vector],
-        Expression::Load { pointer } => vec![pointer],
+        Expression::Compose { ref components, .. } => components.iter().copied().for_each(visit),
+        Expression::Access { base, index } => [base, index].into_iter().for_each(visit),
+        Expression::AccessIndex { base: operand, .. }
+        | Expression::Splat { value: operand, .. }
+        | Expression::Swizzle {
+            vector: operand, ..
+        }
+        | Expression::Load { pointer: operand }
+        | Expression::Unary { expr: operand, .. }
+        | Expression::Derivative { expr: operand, .. }
+        | Expression::Relational {
+            argument: operand, ..
+        }
+        | Expression::As { expr: operand, .. }
+        | Expression::ArrayLength(operand)
+        | Expression::RayQueryVertexPositions { query: operand, .. }
+        | Expression::RayQueryGetIntersection { query: operand, .. } => {
+            [operand].into_iter().for_each(visit)
+        }
         Expression::ImageSample {
             image,
             sampler,
@@ -24,62 +44,54 @@ pub fn operands(expression: &Expression) -> Vec<Operand> {
             level,
             depth_ref,
             ..
-        } => {
-            let mut found = vec![image, sampler, coordinate];
-            found.extend(array_index);
-            found.extend(offset);
-            found.extend(level_operands(level));
-            found.extend(depth_ref);
-            found
-        }
+        } => [image, sampler, coordinate]
+            .into_iter()
+            .chain(array_index)
+            .chain(offset)
+            .chain(level_operands(level))
+            .chain(depth_ref)
+            .for_each(visit),
         Expression::ImageLoad {
             image,
             coordinate,
             array_index,
             sample,
             level,
-        } => {
-            let mut found = vec![image, coordinate];
-            found.extend(array_index);
-            found.extend(sample);
-            found.extend(level);
-            found
-        }
+        } => [image, coordinate]
+            .into_iter()
+            .chain(array_index)
+            .chain(sample)
+            .chain(level)
+            .for_each(visit),
         Expression::ImageQuery { image, query } => {
-            let mut found = vec![image];
-            if let ImageQuery::Size { level } = query {
-                found.extend(level);
-            }
-            found
+            let level = match query {
+                ImageQuery::Size { level } => level,
+                ImageQuery::NumLevels | ImageQuery::NumLayers | ImageQuery::NumSamples => None,
+            };
+            [image].into_iter().chain(level).for_each(visit)
         }
-        Expression::Unary { expr, .. } => vec![expr],
-        Expression::Binary { left, right, .. } => vec![left, right],
+        Expression::Binary { left, right, .. } => [left, right].into_iter().for_each(visit),
         Expression::Select {
             condition,
             accept,
             reject,
-        } => vec![condition, accept, reject],
-        Expression::Derivative { expr, .. } => vec![expr],
-        Expression::Relational { argument, .. } => vec![argument],
+        } => [condition, accept, reject].into_iter().for_each(visit),
         Expression::Math {
             arg,
             arg1,
             arg2,
             arg3,
             ..
-        } => {
-            let mut found = vec![arg];
-            found.extend(arg1);
-            found.extend(arg2);
-            found.extend(arg3);
-            found
+        } => [arg]
+            .into_iter()
+            .chain(arg1)
+            .chain(arg2)
+            .chain(arg3)
+            .for_each(visit),
+        Expression::CooperativeLoad { ref data, .. } => {
+            [data.pointer, data.stride].into_iter().for_each(visit)
         }
-        Expression::As { expr, .. } => vec![expr],
-        Expression::ArrayLength(array) => vec![array],
-        Expression::RayQueryVertexPositions { query, .. }
-        | Expression::RayQueryGetIntersection { query, .. } => vec![query],
-        Expression::CooperativeLoad { ref data, .. } => vec![data.pointer, data.stride],
-        Expression::CooperativeMultiplyAdd { a, b, c } => vec![a, b, c],
+        Expression::CooperativeMultiplyAdd { a, b, c } => [a, b, c].into_iter().for_each(visit),
         Expression::Literal(_)
         | Expression::Constant(_)
         | Expression::Override(_)
@@ -92,16 +104,17 @@ pub fn operands(expression: &Expression) -> Vec<Operand> {
         | Expression::WorkGroupUniformLoadResult { .. }
         | Expression::RayQueryProceedResult
         | Expression::SubgroupBallotResult
-        | Expression::SubgroupOperationResult { .. } => Vec::new(),
+        | Expression::SubgroupOperationResult { .. } => {}
     }
 }
 
-fn level_operands(level: SampleLevel) -> Vec<Operand> {
-    match level {
-        SampleLevel::Auto | SampleLevel::Zero => Vec::new(),
-        SampleLevel::Exact(expression) | SampleLevel::Bias(expression) => vec![expression],
-        SampleLevel::Gradient { x, y } => vec![x, y],
-    }
+fn level_operands(level: SampleLevel) -> impl Iterator<Item = Operand> {
+    let operands = match level {
+        SampleLevel::Auto | SampleLevel::Zero => [None, None],
+        SampleLevel::Exact(expression) | SampleLevel::Bias(expression) => [Some(expression), None],
+        SampleLevel::Gradient { x, y } => [Some(x), Some(y)],
+    };
+    operands.into_iter().flatten()
 }
 
 /// The expressions that a statement names and that the check tests, but for those in its blocks, the arguments of a

@@ -1,8 +1,10 @@
-//! Runs naga's handle check and ours, and two ways of sealing, on the same images and compares their answers.
+//! Runs naga's handle check and ours, and two ways of sealing and of walking, on the same images and compares their
+//! answers.
 mod bench;
 mod body;
 mod breaches;
 mod catalogue;
+mod chains;
 mod compare;
 mod contents;
 mod damage;
@@ -11,17 +13,21 @@ mod generator;
 mod handles;
 mod hexadecimal;
 mod image;
+mod jobs;
 mod layout;
 mod library;
 mod limits;
 mod lists;
 mod locate;
+mod operands;
 mod orders;
 mod positions;
 mod random;
+mod readings;
 mod record;
 mod reference;
 mod refusal;
+mod report;
 mod sample;
 mod seal;
 mod sealable;
@@ -31,6 +37,7 @@ mod statements;
 mod unchecked;
 mod vectors;
 mod verdict;
+mod walks;
 mod writer;
 
 use compare::{compare, Comparison};
@@ -41,6 +48,7 @@ use std::io::{self, BufRead};
 use std::path::Path;
 use std::process::ExitCode;
 use std::{env, thread};
+use walks::Walks;
 
 const USAGE: &str = "\
 usage: oracle compare [--seed N] [--images N] [--jobs N]   compare the answers on all short images, the catalogue, the
@@ -49,6 +57,9 @@ usage: oracle compare [--seed N] [--images N] [--jobs N]   compare the answers o
        oracle images                                      compare on the images on standard input, a line each
        oracle answers                                     print the answers to the images there: five numbers of the
                                                           check and five of sealing
+       oracle walks [--seed N] [--images N] [--jobs N]     compare the walks of tables on the catalogue, each operand,
+                                                          the limits, deep tables, and so many random images
+       oracle walk                                        compare the walks on the images on standard input
        oracle vectors FOLDER [--seed N]                   write the recorded list to FOLDER/stdin and FOLDER/stdout
        oracle bench                                       measure both";
 
@@ -63,11 +74,13 @@ fn main() -> ExitCode {
     let words: Vec<String> = env::args().skip(1).collect();
     let words: Vec<&str> = words.iter().map(String::as_str).collect();
     let outcome = match words[..] {
-        ["compare", ref rest @ ..] => options(rest).map(|options| compare_all(&options)),
+        ["compare", ref rest @ ..] => options(rest, 1_000_000).map(|options| compare_all(&options)),
         ["images"] => Some(compare_given()),
         ["answers"] => Some(answer_given()),
+        ["walks", ref rest @ ..] => options(rest, 100_000).map(|options| walk_all(&options)),
+        ["walk"] => Some(walk_given()),
         ["vectors", folder, ref rest @ ..] => {
-            options(rest).map(|options| write_vectors(options.seed, folder))
+            options(rest, 0).map(|options| write_vectors(options.seed, folder))
         }
         ["bench"] => Some(measure()),
         _ => None,
@@ -78,10 +91,11 @@ fn main() -> ExitCode {
     })
 }
 
-fn options(words: &[&str]) -> Option<Options> {
+/// The options, with so many images where they do not say how many.
+fn options(words: &[&str], images: u64) -> Option<Options> {
     let mut options = Options {
         seed: 30,
-        images: 1_000_000,
+        images,
         jobs: 2,
     };
     for pair in words.chunks(2) {
@@ -125,6 +139,37 @@ fn compare_given() -> ExitCode {
     }
 }
 
+fn walk_all(options: &Options) -> ExitCode {
+    let &Options { seed, images, jobs } = options;
+    println!("seed {seed}");
+    let others = images / 4;
+    let sources = [
+        Source::catalogue(),
+        Source::operands(),
+        Source::limits(),
+        Source::large(),
+        Source::chains(),
+        Source::large_chains(),
+        Source::random(seed, Scale::Any, others),
+        Source::sealable(seed, others),
+        Source::sealed(seed, images - 2 * others),
+    ];
+    let walks: Vec<_> = sources.iter().map(|it| walks::compare(it, jobs)).collect();
+    finish_walks(&walks)
+}
+
+fn walk_given() -> ExitCode {
+    match given() {
+        Some(images) => finish_walks(&[walks::compare(&Source::listed("given", images), 1)]),
+        None => ExitCode::FAILURE,
+    }
+}
+
+fn finish_walks(walks: &[Walks]) -> ExitCode {
+    walks::print(walks);
+    status(walks.iter().all(Walks::agrees))
+}
+
 fn answer_given() -> ExitCode {
     let Some(images) = given() else {
         return ExitCode::FAILURE;
@@ -147,10 +192,13 @@ fn given() -> Option<Vec<Vec<u8>>> {
 
 fn finish(comparisons: &[Comparison]) -> ExitCode {
     compare::print(comparisons);
-    if comparisons.iter().all(Comparison::agrees) {
-        ExitCode::SUCCESS
-    } else {
-        ExitCode::FAILURE
+    status(comparisons.iter().all(Comparison::agrees))
+}
+
+fn status(agrees: bool) -> ExitCode {
+    match agrees {
+        true => ExitCode::SUCCESS,
+        false => ExitCode::FAILURE,
     }
 }
 

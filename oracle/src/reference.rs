@@ -18,6 +18,18 @@ pub fn verdicts(image: &[u8], memory: Memory) -> Verdicts {
     }
 }
 
+/// The module of an image that sealing accepts, or else the verdict of sealing.
+pub fn sealed_module(image: &[u8], memory: Memory) -> Result<Module, Verdict> {
+    let decoded =
+        decode::<true>(image, memory).map_err(|refusal| Verdict::refused(refusal.number()))?;
+    let verdicts = verdicts_of(&decoded);
+    if verdicts.accepts() {
+        Ok(decoded.module)
+    } else {
+        Err(verdicts.seal)
+    }
+}
+
 fn verdicts_of(decoded: &Decoded) -> Verdicts {
     let check = check_verdict(decoded);
     if check != Verdict::default() {

@@ -177,17 +177,33 @@ fn expressions(number: u32, counts: &Counts) -> Vec<Chunk> {
         vec![sample],
     ];
     while values.len() < 32 {
-        let last = values.len() as u32 - 1;
-        values.push(vec![match last % 7 {
-            0 => words(76, &[last]),
-            1 => words(80, &[1, last]),
-            2 | 3 => words(81, &[1, last, last / 2]),
-            4 => words(69, &[last, 0]),
-            5 => words(85, &[1, last, last - 1, ABSENT, ABSENT]),
-            _ => words(82, &[last, last - 1, last - 2]),
-        }]);
+        values.push(vec![value(values.len() as u32 - 1)]);
     }
     values
+}
+
+/// An expression that takes the last one before it, and others.
+fn value(last: u32) -> Vec<u8> {
+    match last % 7 {
+        0 => words(76, &[last]),
+        1 => words(80, &[1, last]),
+        2 | 3 => words(81, &[1, last, last / 2]),
+        4 => words(69, &[last, 0]),
+        5 => words(85, &[1, last, last - 1, ABSENT, ABSENT]),
+        _ => words(82, &[last, last - 1, last - 2]),
+    }
+}
+
+/// So many expressions, global ones.
+pub fn long_table(count: usize) -> Vec<u8> {
+    let literals = [0, 1, 2].map(|mark| words(64, &[mark]));
+    let values = (3..count as u32).map(|number| value(number - 1));
+    literals.into_iter().chain(values).flatten().collect()
+}
+
+/// A function with so many expressions.
+pub fn long_body(count: usize) -> Vec<u8> {
+    [words(11, &[1, ABSENT]), long_table(count), vec![31]].concat()
 }
 
 fn statements(number: u32, count: u32) -> Vec<Chunk> {

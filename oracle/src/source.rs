@@ -3,7 +3,7 @@ use crate::decode::Memory;
 use crate::generator::Scale;
 use crate::lists::{self, Lists};
 use crate::random::Random;
-use crate::{breaches, catalogue, damage, generator, limits, orders, sealable};
+use crate::{breaches, catalogue, chains, damage, generator, limits, operands, orders, sealable};
 
 /// A numbered list of images.
 pub struct Source {
@@ -21,6 +21,7 @@ enum Images {
     Random { seed: u64, scale: Scale },
     Damaged { seed: u64, scale: Scale },
     Sealable { seed: u64 },
+    Sealed { seed: u64 },
 }
 
 impl Source {
@@ -69,6 +70,22 @@ impl Source {
         }
     }
 
+    pub fn operands() -> Self {
+        Source::listed("operands", operands::images())
+    }
+
+    pub fn chains() -> Self {
+        Source::listed("deep", chains::images(Memory::SMALL))
+    }
+
+    /// The chains of the larger memory.
+    pub fn large_chains() -> Self {
+        Source {
+            memory: Memory::LARGE,
+            ..Source::listed("large deep", chains::images(Memory::LARGE))
+        }
+    }
+
     pub fn listed(name: &'static str, images: Vec<Vec<u8>>) -> Self {
         Source {
             name,
@@ -109,6 +126,18 @@ impl Source {
         }
     }
 
+    /// Random images that sealing mostly accepts, without changes.
+    pub fn sealed(seed: u64, count: u64) -> Self {
+        Source {
+            name: "sealed",
+            count,
+            memory: Memory::SMALL,
+            images: Images::Sealed {
+                seed: !seed.rotate_left(32),
+            },
+        }
+    }
+
     pub fn image(&self, number: u64) -> Vec<u8> {
         match &self.images {
             Images::Short => lists::short(number),
@@ -124,6 +153,9 @@ impl Source {
                 damage::damaged(records, &mut random)
             }
             Images::Sealable { seed } => sealable::image(&mut Random::new(*seed, number)),
+            Images::Sealed { seed } => {
+                generator::sealable_records(&mut Random::new(*seed, number)).concat()
+            }
         }
     }
 }

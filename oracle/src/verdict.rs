@@ -111,6 +111,12 @@ pub mod sealing {
     pub const EARLIER: u32 = 13;
 }
 
+/// The refusals of a walk.
+pub mod walking {
+    pub const NO_SUCH_BODY: u32 = 14;
+    pub const TOO_FEW_PLACES: u32 = 15;
+}
+
 /// What the numbers of a fault count.
 pub mod kind {
     pub const TYPE: u32 = 1;
