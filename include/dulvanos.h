@@ -9,7 +9,7 @@
  *
  * Memory: a call keeps the records in arrays on its own stack. It allocates nothing, reads the image and
  * nothing else of the caller's and keeps nothing for later. The calls that walk write the values that they are
- * lent; nothing else of the caller's is written.
+ * lent, and read of them what they have written; nothing else of the caller's is written.
  *
  * Threads: there is no state, so any number of calls may run at once, also on one image, as long as nothing
  * writes that image meanwhile, and nothing else uses the values that a call is lent.
@@ -61,7 +61,8 @@ enum dulvanos_refusal {
     DULVANOS_PLACED = 11,         /* global expression first is of a kind that stands in bodies only; second is 0 */
     DULVANOS_SEALED_INSIDE = 12,  /* a handle names no item of its table, or the number of an argument none: first is
                                      that number, second is 0 */
-    DULVANOS_SEALED_EARLIER = 13, /* item first depends on item second, which is not earlier, where the check does not look */
+    DULVANOS_SEALED_EARLIER = 13, /* item first depends on item second, which is not earlier, where the check does
+                                     not look */
     /* of a walk, with four zeros */
     DULVANOS_NO_SUCH_BODY = 14,   /* no function or entry point has that number, or no table has */
     DULVANOS_TOO_FEW_PLACES = 15  /* there are fewer places than items */
@@ -122,7 +123,8 @@ struct dulvanos_verdict dulvanos_seal_large(const uint8_t *image, size_t length,
 enum dulvanos_table {
     DULVANOS_TYPES = 0,
     DULVANOS_FILTERS = 1,             /* the diagnostic filter nodes */
-    DULVANOS_FUNCTIONS = 2,           /* the operands of a function are those that it calls */
+    DULVANOS_FUNCTIONS = 2,           /* the operands of a function are those that it
+                                         has results of, and then those that it calls */
     DULVANOS_GLOBAL_EXPRESSIONS = 3,
     DULVANOS_FUNCTION_BODY = 4,       /* the expressions of the function with the number body */
     DULVANOS_ENTRY_POINT_BODY = 5     /* the expressions of the entry point with the number body */

@@ -1,7 +1,8 @@
 #!/usr/bin/env bash
-# Which callers of sealing and of walks do not compile. The edits that the gate tries must reach the prover, and these are stopped by
-# the compiler before it: so a caller (tools/rejections/caller.source) is built as it stands, then with the edit that the compiler must accept, and then
-# with each of those that it must reject, and its message is looked for. Run from anywhere: bash tools/rejections.sh
+# Which callers of sealing and of walks do not compile. The edits that the gate tries must reach the prover, and these are
+# stopped by the compiler before it: so a caller (tools/rejections/caller.source) is built as it stands, then with each
+# edit that the compiler must accept, and then with each of those that it must reject, and its message is looked for.
+# Run from anywhere: bash tools/rejections.sh
 set -euo pipefail
 cd "$(dirname "$0")/.."
 edits=tools/rejections

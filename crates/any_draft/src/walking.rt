@@ -1,10 +1,7 @@
 //! Seals a draft and walks one of its tables.
-ghost use Rattle.std.specs.Prelude.{◌≡◌, IfOk, MatchResult, None};
+ghost use Rattle.std.specs.Prelude.{IfOk};
 ghost use Rattle.draft.specs.State.{state};
-ghost use Rattle.sealing.specs.Seal.{seal_of};
-ghost use Rattle.sealed_walk.specs.Walking.{nodes_of};
-ghost use Rattle.walks.specs.Walks.{IsWalkOf};
-ghost use Rattle.any_draft.specs.Walking.{IsDenied};
+ghost use Rattle.any_draft.specs.Walking.{WalkedOrDenied};
 
 use crate::drafts::AnyDraft;
 use rules::faults::Rejection;
@@ -34,7 +31,7 @@ pub fn seal_and_walk<D: AnyDraft, R: Reading>(
 ) -> Result<Result<TableWalk<R::Value>, NoWalk>, AllocError>
 where
     R::Value: Clone + Default,
-    ensures { let s = state (D.kept draft.now) in let nodes = nodes_of table s.built in IfOk result (λ answer. MatchResult answer (λ w. (seal_of s ≡ None) × IsWalkOf (R.steps reading.now) nodes w.values.items w.tally) (IsDenied (seal_of s) nodes)) }
+    ensures { IfOk result (WalkedOrDenied (R.steps reading.now) table (state (D.kept draft.now))) }
 {
     match draft.sealed() {
         Err(rejection) => Ok(Err(NoWalk::Rejected(rejection))),

@@ -75,6 +75,7 @@ next_of (Reading c o) w = option_of (word_of w) c o
 next_of (Awaiting l c o) w = limit_given l (number_in w) c o
 next_of (Settled r) w = Settled r
 
+-- what words come to where no more follow
 abbrev pub finished : Progress → Result Request Misuse
 finished Empty = Err NoCommand
 finished AwaitingTable = Err NoTable

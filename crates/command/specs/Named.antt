@@ -24,6 +24,7 @@ body_of w =
     (cond (led_by (codes "entry:") w) (option_map EntryPoint (short_in (drop 6 w)))
     None)
 
+-- the table that a word names
 abbrev pub table_of : List ℕ → Option TableName
 table_of w =
     cond (bytes_eq w (codes "types")) (Some Types)
@@ -32,12 +33,14 @@ table_of w =
     (cond (bytes_eq w (codes "globals")) (Some Globals)
     (body_of w))))
 
+-- the reading that a word names
 abbrev pub reading_of : List ℕ → Option ReadingName
 reading_of w =
     cond (bytes_eq w (codes "depth")) (Some Depth)
     (cond (bytes_eq w (codes "steady")) (Some Steady)
     None)
 
+-- the options before any is given
 abbrev pub no_options : Options
 no_options = record { plain = false; keep_going = false; bytes = None; slots = None; named = false }
 

@@ -15,10 +15,11 @@ abbrev pub number_in : List ℕ → Option ℕ
 number_in [] = None
 number_in (b ∷ w) = fold digit_more (Some 0) (b ∷ w)
 
--- that number, if it is below 2 ^ 32
+-- a number below 2 ^ 32
 abbrev pub below_limit : Option ℕ → Option ℕ
 below_limit None = None
 below_limit (Some n) = cond (nat_lt n (2 ^ 32)) (Some n) None
 
+-- the number that decimal digits write, if it is below 2 ^ 32
 abbrev pub short_in : List ℕ → Option ℕ
 short_in w = below_limit (number_in w)

@@ -1,5 +1,5 @@
 -- Lists of calls.
-use Rattle.std.specs.Prelude.{◌≡◌, ℕ, suc, min, List, [], ◌∷◌, ◌++◌, length, take, drop, Some, None, Option, Ok, Err, Result}
+use Rattle.std.specs.Prelude.{◌≡◌, ℕ, suc, min, Bool, true, false, List, [], ◌∷◌, ◌++◌, length, take, drop, Some, None, Option, Ok, Err, Result}
 use Rattle.std.specs.List.{slice_get}
 use Rattle.node.specs.Nodes.{Node}
 use Rattle.rules.specs.declared.faults.Rejection.{Rejection}
@@ -20,7 +20,7 @@ use Rattle.history.specs.declared.calls.Call.TheVariants as call
 use Rattle.history.specs.declared.calls.Walk.{Walk}
 use Rattle.history.specs.declared.calls.Outcome.{Outcome}
 use Rattle.history.specs.declared.calls.Outcome.TheVariants as outcome
-use Rattle.history.specs.Walks.{walked_nodes}
+use Rattle.history.specs.Walks.{is_drafts, walked_nodes}
 
 -- passed, or refused for this reason
 abbrev pub unless : Option Rejection → Result Unit Rejection
@@ -85,12 +85,19 @@ module _ {R T : Type 0} where
       (earlier later : List (Call R T)) → calls ≡ earlier ++ (call.Seal ∷ later)
       → slice_get answers (length earlier) ≡ Some (Some (sealed (run room places [] (puts_of earlier))))
 
-  -- wherever a seal stands that accepted, what sealing promises holds of the records that were kept there: every handle is
-  -- inside, and there is a row
-  abbrev pub EachPromise : ℕ → ℕ → List (Call R T) → List (Option Outcome) → Type 0
-  EachPromise room places calls answers =
-      (earlier later : List (Call R T)) → calls ≡ earlier ++ (call.Seal ∷ later)
-      → slice_get answers (length earlier) ≡ Some (Some (outcome.Sealed (Ok tt)))
+  -- whether a call seals the draft: a seal does, and so does a walk of one of the draft's tables
+  abbrev pub seals_draft : Call R T → Bool
+  seals_draft (call.Put r) = false
+  seals_draft call.Check = false
+  seals_draft call.Seal = true
+  seals_draft (call.Walk w) = is_drafts w.table
+
+  -- wherever the draft is sealed and sealing accepts, what sealing promises holds of the records that were kept there: every
+  -- handle is inside, and every expression that an Emit covers, and there is a row
+  abbrev pub EachPromise : ℕ → ℕ → List (Call R T) → Type 0
+  EachPromise room places calls =
+      (earlier later : List (Call R T)) (c : Call R T) → calls ≡ earlier ++ (c ∷ later) → seals_draft c ≡ true
+      → seal_of (state (run room places [] (puts_of earlier))) ≡ None
       → Promises (run room places [] (puts_of earlier))
 
   -- there are values that each call leaves, from those before the first on to those after the last. Wherever a walk
@@ -140,7 +147,7 @@ pub record Replayed {R T W V : Type 0} (own : T → List Node) (steps : R → St
   pub verdicts : EachVerdict (length before.bytes) (length before.slots) (made_of calls before.answers) after.answers
   -- and every seal what sealing answers for it
   pub seals : EachSeal (length before.bytes) (length before.slots) (made_of calls before.answers) after.answers
-  -- and where one accepted, every handle is inside and there is a row
-  pub promises : EachPromise (length before.bytes) (length before.slots) (made_of calls before.answers) after.answers
+  -- and wherever sealing accepted, every handle is inside, and every expression that an Emit covers, and there is a row
+  pub promises : EachPromise (length before.bytes) (length before.slots) (made_of calls before.answers)
   -- every walk ended, with the only values that keep the rule of its reading, or was refused and changed none
   pub walks : EachWalk own steps (length before.bytes) (length before.slots) (made_of calls before.answers) after.answers before.values after.values

@@ -26,7 +26,7 @@ fn seal_once(draft: &Draft, bytes: &[u8], slots: &[Slot]) -> Result<(), Rejectio
 }
 
 /// Makes one call.
-// Lent on each call; a struct of these must also promise that its references stay: no plainer.
+// Five arguments: a struct of these references would need a promise of its own that they stay.
 fn make<'a, R: Reading, T: NodeTable<'a> + Copy>(
     call: &Call<'_, R, T>,
     draft: &mut Draft,

@@ -17,7 +17,7 @@ use walk::reading::Reading;
 use walk::walk::{Tally, walk};
 
 /// Seals a draft, and walks a table of it.
-fn walk_draft<R: Reading>(
+fn walk_of_draft<R: Reading>(
     draft: &Draft,
     bytes: &[u8],
     slots: &[Slot],
@@ -35,7 +35,7 @@ fn walk_draft<R: Reading>(
 }
 
 /// Tests the caller's table, and walks it.
-fn walk_own<'a, R: Reading, T: NodeTable<'a>>(
+fn walk_of_own<'a, R: Reading, T: NodeTable<'a>>(
     table: &mut T,
     reading: &R,
     values: &mut [R::Value],
@@ -65,10 +65,10 @@ pub(crate) fn walk_wanted<'a, R: Reading, T: NodeTable<'a> + Copy>(
     let places = walk.places.min(values.len());
     let lent = &mut values[..places];
     match &walk.table {
-        WantedTable::Draft(table) => walk_draft(draft, bytes, slots, *table, walk.reading, lent),
+        WantedTable::Draft(table) => walk_of_draft(draft, bytes, slots, *table, walk.reading, lent),
         WantedTable::Own(table) => {
             let mut table = *table;
-            walk_own(&mut table, walk.reading, lent)
+            walk_of_own(&mut table, walk.reading, lent)
         }
     }
 }

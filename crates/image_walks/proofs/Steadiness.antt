@@ -3,7 +3,8 @@ use Rattle.std.proofs.Common.{◌≡◌, ℕ, Bool, true, false, ◌&&◌, ◌==
 use Rattle.std.specs.List.{slice_get}
 use Rattle.std.specs.Option.{option_map}
 use Rattle.std.proofs.lemmas.List.{length-map}
-use Rattle.std.proofs.lemmas.Option.{same_Some, slice_get-map}
+use Rattle.std.proofs.lemmas.Option.{slice_get-map}
+use Rattle.items.proofs.Numbered.{mapped_at}
 use Rattle.node.specs.Nodes.{Node}
 use Rattle.walk.specs.Rule.{Takes, Keeps}
 use Rattle.walk.specs.Readings.{is_steady, steady}
@@ -24,15 +25,6 @@ says_flags : (bs : List Bool) → map says (map flag bs) ≡ bs
 says_flags [] = refl
 says_flags (b ∷ bs) = ap (λ x. x ∷ map says (map flag bs)) (says_flag b) ∙ ap (λ xs. b ∷ xs) (says_flags bs)
 
-module _ {X Y : Type 0} (f : X → Y) where
-  -- what stands at a place of a mapped list
-  mapped : (o : Option X) (y : Y) → option_map f o ≡ Some y → (x : X) × (o ≡ Some x) × (Some (f x) ≡ Some y)
-  mapped None y e = absurd cc
-  mapped (Some x) y e = (x, refl, e)
-
-  got_mapped : (xs : List X) (k : ℕ) (y : Y) → slice_get (map f xs) k ≡ Some y → (x : X) × (slice_get xs k ≡ Some x) × (Some (f x) ≡ Some y)
-  got_mapped xs k y e = mapped (slice_get xs k) y (sym (slice_get-map f xs k) ∙ e)
-
 takes_says : (values : List ℕ) (w : Bool) (ks : List ℕ) (x : Bool) → Takes flags values w ks x → Takes steady (map says values) w ks x
 takes_says values w [] x t = t
 takes_says values w (k ∷ ks) x t = (says t.0, slice_get-map says values k ∙ ap (option_map says) t.1, takes_says values (w && says t.0) ks x t.2)
@@ -47,18 +39,18 @@ module _ (nodes : List Node) where
   keeps_says values kept = record {
     one_each = length-map values says ∙ kept.one_each;
     each = λ i n v is value.
-        let u = got_mapped says values i v value in
+        let u = mapped_at says values i v value in
         let m = kept.each i n u.0 is u.1 in
-        (m.0, takes_says values (is_steady n.bytes) n.operands m.0 m.1, sym (says_flag m.0) ∙ ap says m.2 ∙ same_Some (says u.0) v u.2);
+        (m.0, takes_says values (is_steady n.bytes) n.operands m.0 m.1, sym (says_flag m.0) ∙ ap says m.2 ∙ u.2);
   }
 
   keeps_flag : (answers : List Bool) → Keeps steady nodes answers → Keeps flags nodes (map flag answers)
   keeps_flag answers kept = record {
     one_each = length-map answers flag ∙ kept.one_each;
     each = λ i n v is value.
-        let u = got_mapped flag answers i v value in
+        let u = mapped_at flag answers i v value in
         let m = kept.each i n u.0 is u.1 in
-        (m.0, takes_flag answers (is_steady n.bytes) n.operands m.0 m.1, ap flag m.2 ∙ same_Some (flag u.0) v u.2);
+        (m.0, takes_flag answers (is_steady n.bytes) n.operands m.0 m.1, ap flag m.2 ∙ u.2);
   }
 
   first_flag : (before after : List ℕ) → FirstAre flags nodes before after → FirstFlag nodes before after

@@ -5,16 +5,14 @@ use Rattle.rules.specs.Module.{Module}
 use Rattle.draft.specs.State.{state}
 use Rattle.node.specs.Nodes.{Node}
 use Rattle.images.specs.declared.question.Question.TheVariants.{Seal}
-use Rattle.images.specs.declared.refusal.ImageRefusal.{ImageRefusal}
 use Rattle.images.specs.declared.verdict.Verdict.{Verdict}
 use Rattle.images.specs.Putting.{put_all}
 use Rattle.images.specs.Answer.{refusal_in, numbers as verdict}
 use Rattle.walk.specs.declared.walk.Tally.{Tally}
-use Rattle.walk.specs.declared.walk.WalkRefusal.TheVariants.{NoSuchBody}
 use Rattle.walk.specs.Walked.{refusal_number}
 use Rattle.walk.specs.Leaves.{placed}
 use Rattle.sealed_walk.specs.declared.walking.DraftTable.{DraftTable}
-use Rattle.sealed_walk.specs.Walking.{nodes_of}
+use Rattle.sealed_walk.specs.Walking.{nodes_of, unless_refused}
 use Rattle.image_walks.specs.declared.refusal.ImageWalkRefusal.{ImageWalkRefusal}
 use Rattle.image_walks.specs.declared.refusal.ImageWalkRefusal.TheVariants.{Image, Walk}
 use Rattle.image_walks.specs.declared.walked.Walked.{Walked}
@@ -24,12 +22,6 @@ abbrev pub nodes_in : Option DraftTable → Module → Option (List Node)
 nodes_in None m = None
 nodes_in (Some table) m = nodes_of table m
 
--- the refusal of an image comes first, and then that there is no such table
-abbrev pub unless_refused : Option ImageRefusal → Option (List Node) → Result (List Node) ImageWalkRefusal
-unless_refused (Some e) nodes = Err (Image e)
-unless_refused None None = Err (Walk NoSuchBody)
-unless_refused None (Some nodes) = Ok nodes
-
 module _ (room slots : ℕ) (image : List ℕ) where
   -- the module that the records of the image make, when they are put on a new draft up to the first refusal
   abbrev pub module_in : Module
@@ -37,7 +29,7 @@ module _ (room slots : ℕ) (image : List ℕ) where
 
   -- the nodes that are walked, or why none are: put or sealing refuses the image, there is no such table, or the places are too few
   abbrev pub nodes_walked : Option DraftTable → ℕ → Result (List Node) ImageWalkRefusal
-  nodes_walked table places = placed Walk places (unless_refused (refusal_in Seal room slots image) (nodes_in table module_in))
+  nodes_walked table places = placed Walk places (unless_refused Image Walk (refusal_in Seal room slots image) (nodes_in table module_in))
 
 -- a verdict and two counts
 abbrev pub with_counts : Verdict → ℕ → ℕ → Walked

@@ -4,6 +4,7 @@ use Rattle.command.specs.declared.TableName.TheVariants as name
 use Rattle.sealed_walk.specs.declared.walking.DraftTable.{DraftTable}
 use Rattle.sealed_walk.specs.declared.walking.DraftTable.TheVariants as table
 
+-- the table of a draft that has this name
 abbrev pub named_table : TableName → DraftTable
 named_table name.Types = table.Types
 named_table name.Filters = table.Filters

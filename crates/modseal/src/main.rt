@@ -45,7 +45,9 @@ is depth or steady
               row TABLE:NUMBER... and walk TABLE READING ITEMS TAKES VALUE...
               where the module is sealed
               (check, seal: NAME: check passed, or
-              NAME: check NUMBER KIND FIRST SECOND POSITION)
+              NAME: check NUMBER KIND FIRST SECOND POSITION;
+              walk: walk TABLE READING ITEMS TAKES VALUE..., or
+              NAME: walk NUMBER 0 0 0 0, or as seal)
 --keep-going  report: go on behind a refused record
 --bytes N     lend the draft N bytes, and
 --slots N     N slots: as many as the image needs where this is not said";
@@ -135,8 +137,8 @@ impl Inputs<'_> {
         }
     }
 
-    /// Reports, checks, seals or walks every input that the words behind the command name; whether all could be read, and
-    /// pass.
+    /// Reports, checks, seals or walks every input that the words behind the command name; whether all could be
+    /// read, and pass.
     // The words are read again for the names: the options are `Copy` and hold no text.
     fn take_all(&self, words: &[String]) -> io::Result<bool> {
         if !self.options.named {

@@ -21,5 +21,6 @@ home_in s table.LocalVariables = home_open s.opened s
 home_in s table.LocalExpressions = home_open s.opened s
 home_in s t = home.Module
 
+-- the same of a record of this kind
 abbrev pub home_of : State → Kind → Home
 home_of s k = home_in s (table_of s k)

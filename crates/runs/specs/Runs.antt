@@ -15,10 +15,11 @@ use Rattle.arena.specs.Viewing.{items_in}
 use Rattle.runs.specs.Homes.{home_of}
 
 module _ (room places : ℕ) where
-  -- the kept records after one put, and after many
+  -- the kept records after one put
   abbrev pub put_kept : List Record → Record → List Record
   put_kept m r = (put_def room places m r).1
 
+  -- and after many, one after the other
   abbrev pub run : List Record → List Record → List Record
   run m rs = fold (put_kept) m rs
 

@@ -36,15 +36,6 @@ opened_is m t n kept left is all o e =
     let ahead : left ≡ items_of (Numbered t) m = is ∙ ap (items_between (Numbered t) m 0) all in
     sym (slice_get-map (body_of m) (items_of (Numbered t) m) n ∙ ap (option_map (body_of m)) (ap (λ items. slice_get items n) (sym ahead) ∙ e))
 
-module _ {X : Type 0} (P : X → Type 0) where
-  pub all_first : (xs ys : List X) → AllByRecursion P (xs ++ ys) → AllByRecursion P xs
-  all_first [] ys a = tt
-  all_first (x ∷ xs) ys a = (a.0, all_first xs ys a.1)
-
-  pub all_second : (xs ys : List X) → AllByRecursion P (xs ++ ys) → AllByRecursion P ys
-  all_second [] ys a = a
-  all_second (x ∷ xs) ys a = all_second xs ys a.1
-
 -- in a body that is found among some, operands are earlier where they are in all of these
 pub found_earlier : (o : Option Shown) (bodies : List Body) (n : ℕ) → option_map shown_body o ≡ slice_get bodies n → AllByRecursion (λ b. OperandsEarlier (inner_nodes b)) bodies → IfSome o (λ b. OperandsEarlier (inner_nodes (shown_body b)))
 found_earlier None bodies n e all = tt

@@ -1,5 +1,5 @@
 -- Walking a table of a sealed draft.
-use Rattle.std.specs.Prelude.{◌≡◌, List, Some, None, Option, Err, Result}
+use Rattle.std.specs.Prelude.{◌≡◌, List, Some, None, Option, Ok, Err, Result}
 use Rattle.std.specs.List.{slice_get}
 use Rattle.std.specs.Option.{option_map}
 use Rattle.rules.specs.Module.{Module}
@@ -21,6 +21,12 @@ nodes_of table.Functions m = Some (functions_nodes m)
 nodes_of table.GlobalExpressions m = Some (expressions_nodes m)
 nodes_of (table.Function n) m = option_map inner_nodes (slice_get m.functions n)
 nodes_of (table.EntryPoint n) m = option_map inner_nodes (slice_get m.entries n)
+
+-- the nodes of a table that was looked for: something before may be refused, and there may be no such table
+abbrev pub unless_refused : {F E : Type 0} → (F → E) → (WalkRefusal → E) → Option F → Option (List Node) → Result (List Node) E
+unless_refused before refused (Some e) nodes = Err (before e)
+unless_refused before refused None None = Err (refused NoSuchBody)
+unless_refused before refused None (Some nodes) = Ok nodes
 
 -- where there is no such table the walk refuses and the values are as they were; a table is walked as its nodes are
 abbrev pub WalkedAs : {W V : Type 0} → Steps W V → Option (List Node) → List V → List V → Result Tally WalkRefusal → Type 0

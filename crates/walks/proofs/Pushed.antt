@@ -12,8 +12,3 @@ one_walked [] [] b w all one = (one, tt)
 one_walked (x ∷ bodies) (v ∷ walks) b w all one = (all.0, one_walked bodies walks b w all.1 one)
 one_walked [] (v ∷ walks) b w all one = absurd all
 one_walked (x ∷ bodies) [] b w all one = absurd all
-
--- what holds of all elements holds of the one between some
-pub all_between : {X : Type 0} (P : X → Type 0) (xs : List X) (x : X) (ys : List X) → AllByRecursion P (xs ++ x ∷ ys) → P x
-all_between P [] x ys a = a.0
-all_between P (z ∷ xs) x ys a = all_between P xs x ys a.1

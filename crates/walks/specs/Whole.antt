@@ -4,6 +4,7 @@ use Rattle.tables.specs.Tables.{types_nodes, filters_nodes, functions_nodes, exp
 use Rattle.walks.specs.Both.{AreBoth, EachWalked}
 use Rattle.walks.specs.declared.draft_walks.DraftWalks.{DraftWalks}
 
+-- the walks of each table of a module, those of its bodies in the order of their numbers
 pub record AreWalks (m : Module) (w : DraftWalks) : Type 0 where
   pub of_types : AreBoth (types_nodes m) w.types
   pub of_filters : AreBoth (filters_nodes m) w.filters

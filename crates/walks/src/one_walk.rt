@@ -1,9 +1,9 @@
 //! One table of a sealed draft, walked by one reading.
-ghost use Rattle.std.specs.Prelude.{◌≡◌, IfOk, MatchResult, None};
+ghost use Rattle.std.specs.Prelude.{IfOk};
 ghost use Rattle.draft.specs.State.{state};
 ghost use Rattle.seal.specs.Sealed.{IsSealedDraft, sealed_records};
 ghost use Rattle.sealed_walk.specs.Walking.{nodes_of};
-ghost use Rattle.walks.specs.Walks.{IsWalkOf};
+ghost use Rattle.walks.specs.Walks.{WalkedOrNone};
 
 use crate::table_walk::TableWalk;
 use seal::sealed::Sealed;
@@ -24,7 +24,7 @@ pub fn walk_one<R: Reading>(
 where
     R::Value: Clone + Default,
     requires { IsSealedDraft sealed }
-    ensures { let nodes = nodes_of table (state (sealed_records sealed.entry)).built in IfOk result (λ answer. MatchResult answer (λ w. IsWalkOf (R.steps reading.now) nodes w.values.items w.tally) (λ e. (e ≡ WalkRefusal.NoSuchBody) × (nodes ≡ None))) }
+    ensures { IfOk result (WalkedOrNone (R.steps reading.now) (nodes_of table (state (sealed_records sealed.entry)).built)) }
 {
     let places = sealed.view().kept();
     let mut values = vec![in heap; R::Value::default(); places]?;

@@ -53,6 +53,6 @@ returns g c =
       types = one_number_in _ _ law (put_by calls answers);
       verdicts = each_verdict own _ _ count (made_of calls answers) _ _ answered;
       seals = each_seal own _ _ count (made_of calls answers) _ _ answered;
-      promises = each_promise own _ _ count (made_of calls answers) _ _ answered;
+      promises = each_promise room places (made_of calls answers);
       walks = each_walk own steps room places (made_of calls answers) _ _ c.args.values.now c.loop-place.values answered left;
     }

@@ -8,9 +8,9 @@ use Rattle.history.proofs.walks.walk_wanted.Goals as goal
 pub returns-in-Draft-clause-leaves : goal.returns-in-Draft-clause-leaves
 returns-in-Draft-clause-leaves g c =
     let same = ap (wanted g.T.NodeTable.nodes (state (records c.args.draft.now c.args.bytes.now c.args.slots.now))) (sym c.in-Draft.is) in
-    lent (g.R.Reading.steps c.args.walk.now.reading.now) c.args.values.now c.walk_draft.new.values c.min-places.result c.args.walk.now.places _ _ c.min-places.ensures c.walk_draft.auto.values same c.walk_draft.ensures.leaves
+    lent (g.R.Reading.steps c.args.walk.now.reading.now) c.args.values.now c.walk_of_draft.new.values c.min-places.result c.args.walk.now.places _ _ c.min-places.ensures c.walk_of_draft.auto.values same c.walk_of_draft.ensures.leaves
 
 pub returns-in-Own-clause-leaves : goal.returns-in-Own-clause-leaves
 returns-in-Own-clause-leaves g c =
     let same = ap (wanted g.T.NodeTable.nodes (state (records c.args.draft.now c.args.bytes.now c.args.slots.now))) (sym c.in-Own.is) in
-    lent (g.R.Reading.steps c.args.walk.now.reading.now) c.args.values.now c.walk_own.new.values c.min-places.result c.args.walk.now.places _ _ c.min-places.ensures c.walk_own.auto.values same c.walk_own.ensures.leaves
+    lent (g.R.Reading.steps c.args.walk.now.reading.now) c.args.values.now c.walk_of_own.new.values c.min-places.result c.args.walk.now.places _ _ c.min-places.ensures c.walk_of_own.auto.values same c.walk_of_own.ensures.leaves

@@ -7,7 +7,8 @@ use Rattle.tables.specs.Tables.{types_nodes, filters_nodes, functions_nodes, exp
 use Rattle.walk.specs.Rule.{OperandsEarlier}
 use Rattle.seal.specs.Sealed.{sealed_records}
 use Rattle.sealed_walk.specs.declared.walking.DraftTable.TheVariants as table
-use Rattle.sealed_walk.proofs.Found.{shows, all_first, all_second, found_earlier, found_nodes, walked_table, walked_found}
+use Rattle.rules.proofs.Passing.{all_left, all_right}
+use Rattle.sealed_walk.proofs.Found.{shows, found_earlier, found_nodes, walked_table, walked_found}
 use Rattle.sealed_walk.proofs.walking.walk_sealed.Goals as goal
 
 pub walk-requires : goal.walk-requires
@@ -35,14 +36,14 @@ walk_body-requires g c =
     let m = (state (sealed_records c.args.sealed)).built in
     let P = λ (b : Body). OperandsEarlier (inner_nodes b) in
     let whole = shows c.args.sealed c.requires (viewed c.view-view.result) c.view-view.ensures in
-    found_earlier c.numbered_body-body.result m.functions c.in-Function.number (c.numbered_body-body.ensures ∙ ap (λ (n : Module). slice_get n.functions c.in-Function.number) whole) (all_first P m.functions m.entries c.requires.earlier.bodies)
+    found_earlier c.numbered_body-body.result m.functions c.in-Function.number (c.numbered_body-body.ensures ∙ ap (λ (n : Module). slice_get n.functions c.in-Function.number) whole) (all_left P m.functions m.entries c.requires.earlier.bodies)
 
 pub walk_body-requires-in-EntryPoint : goal.walk_body-requires-in-EntryPoint
 walk_body-requires-in-EntryPoint g c =
     let m = (state (sealed_records c.args.sealed)).built in
     let P = λ (b : Body). OperandsEarlier (inner_nodes b) in
     let whole = shows c.args.sealed c.requires (viewed c.view-view.result) c.view-view.ensures in
-    found_earlier c.numbered_body-body-in-EntryPoint.result m.entries c.in-EntryPoint.number (c.numbered_body-body-in-EntryPoint.ensures ∙ ap (λ (n : Module). slice_get n.entries c.in-EntryPoint.number) whole) (all_second P m.functions m.entries c.requires.earlier.bodies)
+    found_earlier c.numbered_body-body-in-EntryPoint.result m.entries c.in-EntryPoint.number (c.numbered_body-body-in-EntryPoint.ensures ∙ ap (λ (n : Module). slice_get n.entries c.in-EntryPoint.number) whole) (all_right P m.functions m.entries c.requires.earlier.bodies)
 
 pub returns-in-Types : goal.returns-in-Types
 returns-in-Types g c =

@@ -1,13 +1,14 @@
 use Rattle.std.proofs.Common.{[], ◌∷◌, ◌++◌, map, refl, sym, ap, ◌∙◌, subst, append_assoc}
 use Rattle.std.specs.List.{AllByRecursion}
 use Rattle.rules.specs.Module.{Body}
+use Rattle.rules.proofs.Passing.{all_right}
 use Rattle.arena.specs.Viewing.{viewed}
 use Rattle.items.specs.Item.{shown, items_left}
 use Rattle.items.specs.Whole.{body_of}
 use Rattle.tables.specs.Tables.{inner_nodes}
 use Rattle.walk.specs.Rule.{OperandsEarlier}
 use Rattle.walks.specs.Both.{AreBoth, EachWalked}
-use Rattle.walks.proofs.Pushed.{one_walked, all_between}
+use Rattle.walks.proofs.Pushed.{one_walked}
 use Rattle.walks.proofs.bodies.walk_bodies.Goals as goal
 
 pub walk_both-requires : goal.walk_both-requires
@@ -16,7 +17,7 @@ walk_both-requires c κs =
     let inv = c.loop-opener.invariant.2 in
     let P = λ (b : Body). OperandsEarlier (inner_nodes b) in
     let next = inv.2 ∙ ap (λ l. inv.0 ++ map body l) (c.in-Some.ensures {u = tt}).steps in
-    let here = all_between P inv.0 (body (shown c.in-Some.opener)) (map body (items_left c.next.new.self)) (subst (AllByRecursion P) next c.requires) in
+    let here = (all_right P inv.0 (body (shown c.in-Some.opener) ∷ map body (items_left c.next.new.self)) (subst (AllByRecursion P) next c.requires)).0 in
     let nodes = c.new-expressions.ensures ∙ ap inner_nodes c.of.ensures in
     ((refl, tt), subst OperandsEarlier (sym nodes) here)
 

@@ -6,7 +6,8 @@ use Rattle.arena.specs.Viewing.{viewed}
 use Rattle.tables.specs.Tables.{types_nodes, filters_nodes, functions_nodes, expressions_nodes, inner_nodes}
 use Rattle.walk.specs.Rule.{OperandsEarlier}
 use Rattle.seal.specs.Sealed.{sealed_records}
-use Rattle.sealed_walk.proofs.Found.{shows, all_first, all_second}
+use Rattle.rules.proofs.Passing.{all_left, all_right}
+use Rattle.sealed_walk.proofs.Found.{shows}
 use Rattle.walks.specs.Both.{AreBoth, EachWalked}
 use Rattle.walks.proofs.draft_walks.walk_draft.Goals as goal
 
@@ -35,14 +36,14 @@ walk_bodies-requires c =
     let m = (state (sealed_records c.args.sealed.now)).built in
     let P = λ (b : Body). OperandsEarlier (inner_nodes b) in
     let whole = shows c.args.sealed.now c.requires (viewed c.view-view.result) c.view-view.ensures in
-    subst (λ (n : Module). AllByRecursion P n.functions) (sym whole) (all_first P m.functions m.entries c.requires.earlier.bodies)
+    subst (λ (n : Module). AllByRecursion P n.functions) (sym whole) (all_left P m.functions m.entries c.requires.earlier.bodies)
 
 pub walk_bodies-requires-2 : goal.walk_bodies-requires-2
 walk_bodies-requires-2 c =
     let m = (state (sealed_records c.args.sealed.now)).built in
     let P = λ (b : Body). OperandsEarlier (inner_nodes b) in
     let whole = shows c.args.sealed.now c.requires (viewed c.view-view.result) c.view-view.ensures in
-    subst (λ (n : Module). AllByRecursion P n.entries) (sym whole) (all_second P m.functions m.entries c.requires.earlier.bodies)
+    subst (λ (n : Module). AllByRecursion P n.entries) (sym whole) (all_right P m.functions m.entries c.requires.earlier.bodies)
 
 pub returns : goal.returns
 returns c =

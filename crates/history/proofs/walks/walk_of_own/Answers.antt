@@ -1,7 +1,7 @@
 use Rattle.std.proofs.Common.{refl, sym, ◌∙◌, subst}
 use Rattle.walk.specs.Rule.{OperandsEarlier}
 use Rattle.history.proofs.Walking.{tested_earlier}
-use Rattle.history.proofs.walks.walk_own.Goals as goal
+use Rattle.history.proofs.walks.walk_of_own.Goals as goal
 
 pub walk-requires : goal.walk-requires
 walk-requires g c κs =
