@@ -1,6 +1,5 @@
 -- One body more.
 use Rattle.std.proofs.Common.{List, [], ◌∷◌, ◌++◌}
-use Rattle.std.specs.List.{AllByRecursion}
 use Rattle.rules.specs.Module.{Body}
 use Rattle.tables.specs.Tables.{inner_nodes}
 use Rattle.walks.specs.declared.table_walk.BothWalks.{BothWalks}
