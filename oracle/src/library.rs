@@ -151,12 +151,11 @@ fn seal_large(image: &[u8], times: u32) -> Verdict {
     unsafe { exported::dulvanos_seal_large(image.as_ptr(), image.len(), times) }
 }
 
-/// The depths of the items of a table, in so much memory.
-pub fn depth(image: &[u8], memory: Memory, table: Table, values: &mut [u32]) -> Walked {
-    let walk = match memory {
-        Memory::LARGE => exported::dulvanos_depth_large,
-        _ => exported::dulvanos_depth,
-    };
+/// A function of the library that walks.
+type Walk<V> = unsafe extern "C" fn(*const u8, usize, u32, u32, *mut V, usize) -> Walked;
+
+/// What it answers, and writes into the values.
+fn walk<V>(walk: Walk<V>, image: &[u8], table: Table, values: &mut [V]) -> Walked {
     let Table { number, body } = table;
     let (places, values) = (values.len(), values.as_mut_ptr());
     // SAFETY: the pointers and the lengths are those of two slices. The function only reads the first, and the second
@@ -164,14 +163,18 @@ pub fn depth(image: &[u8], memory: Memory, table: Table, values: &mut [u32]) -> 
     unsafe { walk(image.as_ptr(), image.len(), number, body, values, places) }
 }
 
+/// The depths of the items of a table, in so much memory.
+pub fn depth(image: &[u8], memory: Memory, table: Table, values: &mut [u32]) -> Walked {
+    match memory {
+        Memory::LARGE => walk(exported::dulvanos_depth_large, image, table, values),
+        _ => walk(exported::dulvanos_depth, image, table, values),
+    }
+}
+
 /// Which items of a table are steady, by 1 and 0, in so much memory.
 pub fn steady(image: &[u8], memory: Memory, table: Table, values: &mut [u8]) -> Walked {
-    let walk = match memory {
-        Memory::LARGE => exported::dulvanos_steady_large,
-        _ => exported::dulvanos_steady,
-    };
-    let Table { number, body } = table;
-    let (places, values) = (values.len(), values.as_mut_ptr());
-    // SAFETY: as in `depth`.
-    unsafe { walk(image.as_ptr(), image.len(), number, body, values, places) }
+    match memory {
+        Memory::LARGE => walk(exported::dulvanos_steady_large, image, table, values),
+        _ => walk(exported::dulvanos_steady, image, table, values),
+    }
 }

@@ -3,6 +3,7 @@ ghost use Rattle.std.specs.Prelude.{◌≡◌, is_ok};
 ghost use Rattle.std.specs.Result.{result_err};
 ghost use Rattle.draft.specs.State.{state};
 ghost use Rattle.images.specs.Answer.{asked};
+ghost use Rattle.module_text.specs.Words.{question_word};
 
 use any_draft::drafts::AnyDraft;
 use arena::view::View;
@@ -14,7 +15,9 @@ use std::fmt;
 use std::fmt::Display;
 
 /// The word of a question.
-pub fn word(question: Question) -> &'static str {
+pub fn word(question: Question) -> &'static str
+    ensures { result.now ≡ question_word question }
+{
     match question {
         Question::Check => "check",
         Question::Seal => "seal",

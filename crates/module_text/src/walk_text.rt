@@ -1,6 +1,7 @@
 //! What walks of a sealed draft gave.
 ghost use Rattle.std.specs.Prelude.{◌≡◌};
 ghost use Rattle.module_text.specs.Shown.{ShowsDepths, ShowsSteady};
+ghost use Rattle.module_text.specs.Words.{refusal_words};
 
 use command::TableName;
 use std::fmt;
@@ -188,7 +189,9 @@ impl Display for Full<'_> {
 }
 
 /// Why nothing was walked.
-pub fn refusal_words(refusal: WalkRefusal) -> &'static str {
+pub fn refusal_words(refusal: WalkRefusal) -> &'static str
+    ensures { result.now ≡ refusal_words refusal }
+{
     match refusal {
         WalkRefusal::NoSuchBody => "no such function or entry point",
         WalkRefusal::TooFewPlaces => "fewer places than items",
