@@ -68,7 +68,7 @@ abbrev pub new_types : State → List Record → List Item
 new_types s [] = []
 new_types s (r ∷ m) = own (table_judged s (judged r)) (item_of s r) ++ new_types (step s r) m
 
-types_from : (s : State) (m : List Record) → Accepted s m → (fold step s m).built.types ≡ s.built.types ++ new_types s m
+pub types_from : (s : State) (m : List Record) → Accepted s m → (fold step s m).built.types ≡ s.built.types ++ new_types s m
 types_from s [] a = sym (append-nil s.built.types)
 types_from s (r ∷ m) a = types_from (step s r) m a.1 ∙ ap (λ l. l ++ new_types (step s r) m) (types_step s r a.0) ∙ append_assoc s.built.types (own (table_judged s (judged r)) (item_of s r)) (new_types (step s r) m)
 

@@ -132,7 +132,7 @@ module _ {d : Counts} {bytes : List ℕ} {slots : List Slot} {m : List Record} (
       → (bytes' : List ℕ) → take (d.used + length r) bytes' ≡ take d.used bytes ++ r
       → Holds (advanced d (length r) (manner_of k)) bytes' (set slots d.kept (slot_in (state m) (table_of (state m) k))) (m ++ r ∷ [])
   holds_push r k a ok room bytes' copied = record {
-    counts_are = ap (λ e. advanced e (length r) (manner_of k)) h.counts_are ∙ sym (counts_after (state m) r k a counted_now.deep counted_now.idle) ∙ ap counts_of (sym (state_push m r ∙ step_is (state m) r k a.kind_is));
+    counts_are = ap (λ e. advanced e (length r) (manner_of k)) h.counts_are ∙ sym (counts_after (state m) r k a counted_now.deep) ∙ ap counts_of (sym (state_push m r ∙ step_is (state m) r k a.kind_is));
     bytes_are = copied ∙ ap (λ b. b ++ r) h.bytes_are ∙ sym (image_push m r);
     slots_are = take_more_set slots d.kept (slot_in (state m) (table_of (state m) k)) room ∙ ap (λ b. b ++ slot_in (state m) (table_of (state m) k) ∷ []) h.slots_are ∙ ap (λ t. layout m ++ slot_in (state m) t ∷ []) (sym (ap (table_judged (state m)) a.kind_is)) ∙ layout_more m r;
     accepted = accepted_more m r h.accepted ok;

@@ -19,13 +19,13 @@ use Rattle.draft.specs.declared.counts.Counts.{Counts}
 use Rattle.draft.specs.Manner.{manner_of, turn_of}
 use Rattle.rules.specs.Module.{Record}
 use Rattle.draft.specs.State.{State, start, step, state, innermost, deepens, table_in, table_of, number_of_next}
-use Rattle.draft.specs.Counting.{stack_of, waits_of, pieces_of, count_of, counts_of, counted, top, advanced, freed}
+use Rattle.draft.specs.Counting.{counts_of, counted, top, advanced, freed}
 use Rattle.draft.specs.Stacking.{Turns}
 use Rattle.arena.specs.Answer.{Answer, answered}
 use Rattle.arena.specs.Put.{has_room, fits, added, known, known_or_added, put_in, put_admitted, put_def}
 use Rattle.arena.specs.Memory.{layout_from, layout, Holds, Kept, slot_of, slot_in}
 use Rattle.draft.proofs.Stepping.{Admits, admits, accepted_front, image_append}
-use Rattle.draft.proofs.Tallying.{top_is, turns_fit, counted_is, pieces_is, count_is}
+use Rattle.draft.proofs.Tallying.{top_is, turns_fit, counted_is}
 use Rattle.arena.proofs.Placing.{used_is, kept_is, records_are, stands_now, holds_push, counted_now, block_is}
 use Rattle.draft.proofs.Fronts.{Fronted, fronted_so, front_is, waiting_within, bare}
 
@@ -50,24 +50,23 @@ module _ {d : Counts} {bytes : List ℕ} {slots : List Slot} {m : List Record} (
   pub fronted_now : Fronted m (state m)
   fronted_now = fronted_so m h.accepted
 
-  pub waiting_is : count_of d.waits ≡ length (state m).waiting
-  waiting_is = ap (λ e. count_of e.waits) h.counts_are ∙ count_is (state m).waits (state m).waiting (counted_now h).idle
+  pub waiting_is : d.waits.count ≡ length (state m).waiting
+  waiting_is = ap (λ e. e.waits.count) h.counts_are
 
-  pub waiting_kept : count_of d.waits ≤ d.kept
+  pub waiting_kept : d.waits.count ≤ d.kept
   waiting_kept = let w = waiting_within m (state m) fronted_now in let e = waiting_is in let k = kept_is h in omega arith
 
   -- the place where what waits begins
-  pub place_is : d.kept - count_of d.waits ≡ length m - length (state m).waiting
+  pub place_is : d.kept - d.waits.count ≡ length m - length (state m).waiting
   place_is = let e = waiting_is in let k = kept_is h in omega arith
 
   -- what the code tests is what is defined
-  pub admitted_is : (r : Record) → admitted_with (pieces_of d.waits) d.opened (top d.brackets) d.brackets.depth (judged r) ≡ admitted (state m) r
+  pub admitted_is : (r : Record) → admitted_with d.waits.pieces d.opened (top d.brackets) d.brackets.depth (judged r) ≡ admitted (state m) r
   admitted_is r =
-      ap (λ e. admitted_with (pieces_of e.waits) e.opened (top e.brackets) e.brackets.depth (judged r)) h.counts_are
-      ∙ ap (λ w. admitted_with w (state m).opened (top (stack_of (state m).brackets)) (length (state m).brackets) (judged r)) (pieces_is (state m).waits (length (state m).waiting))
+      ap (λ e. admitted_with e.waits.pieces e.opened (top e.brackets) e.brackets.depth (judged r)) h.counts_are
       ∙ ap (λ o. admitted_with (state m).waits (state m).opened o (length (state m).brackets) (judged r)) (top_is (state m).brackets)
 
-  pub admitted_so : (r : Record) (f : Result Kind Refusal) → f ≡ admitted_with (pieces_of d.waits) d.opened (top d.brackets) d.brackets.depth (judged r) → admitted (state m) r ≡ f
+  pub admitted_so : (r : Record) (f : Result Kind Refusal) → f ≡ admitted_with d.waits.pieces d.opened (top d.brackets) d.brackets.depth (judged r) → admitted (state m) r ≡ f
   admitted_so r f e = sym (admitted_is r) ∙ sym e
 
   -- what is left when what waits goes
@@ -91,17 +90,14 @@ module _ {d : Counts} {bytes : List ℕ} {slots : List Slot} {m : List Record} (
       size : length (image front) ≤ d.used
       size = let e = ap length image_is in let l = length-append (image front) (image (state m).waiting) in let u = used_is h in omega arith
 
-      places : d.kept - count_of d.waits ≡ length front
+      places : d.kept - d.waits.count ≡ length front
       places = let e = lengths in let w = waiting_is in let k = kept_is h in omega arith
 
       fewer : length front ≤ d.kept
       fewer = let e = lengths in let k = kept_is h in omega arith
 
       bare_counts : freed (counts_of (state m)) (length (image front)) ≡ counts_of (bare (state m) front)
-      bare_counts =
-          let c = count_is (state m).waits (state m).waiting (counted_now h).idle in
-          let e : (state m).kept - count_of (waits_of (state m).waits (length (state m).waiting)) ≡ length front = let l = lengths in let k = (counted_now h).kept_is in omega arith in
-          cc
+      bare_counts = let e : (state m).kept - length (state m).waiting ≡ length front = let l = lengths in let k = (counted_now h).kept_is in omega arith in cc
 
   front_now : take (length m - length (state m).waiting) m ≡ fronted_now.front
   front_now = front_is m (state m) fronted_now

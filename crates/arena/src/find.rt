@@ -13,7 +13,7 @@ use draft::state::SlotTable;
 fn is_joined(block: &[u8], front: &[u8], rest: &[u8]) -> bool
     ensures { Decides result (block.now ≡ front.now ++ rest.now) }
 {
-    block.strip_prefix(front) == Some(rest)
+    block.split_at_checked(front.len()) == Some((front, rest))
 }
 
 impl<'a> View<'a> {

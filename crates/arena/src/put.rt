@@ -1,7 +1,7 @@
 //! Putting a record into a draft.
 ghost use Rattle.std.specs.Prelude.{◌≡◌, ℕ, ◌≤◌, List, [], length, Ok};
 ghost use Rattle.draft.specs.State.{state, table_of};
-ghost use Rattle.draft.specs.Counting.{count_of, counts_of, freed};
+ghost use Rattle.draft.specs.Counting.{counts_of, freed};
 ghost use Rattle.draft.specs.Admitted.{admitted};
 ghost use Rattle.arena.specs.declared.slot.Slot.{Slot as AnySlot};
 ghost use Rattle.arena.specs.Put.{has_room, added, put_def};
@@ -12,7 +12,7 @@ use crate::Draft;
 use crate::answer::item;
 use crate::slot::Slot;
 use draft::behaviour::{manner, table_in};
-use draft::counts::Counts;
+use draft::counts::{Counts, Waiting};
 use draft::refusal::Refusal;
 use draft::state::SlotTable;
 use ir::handle::Handle;
@@ -48,12 +48,15 @@ impl Draft {
 
     /// Takes back what waits, which begins at this byte.
     fn free(&mut self, start: usize)
-        requires { count_of self.old.counts.waits ≤ self.old.counts.kept }
+        requires { self.old.counts.waits.count ≤ self.old.counts.kept }
         ensures { self.new.counts ≡ freed self.old.counts start }
     {
         self.counts.kept -= self.counts.waiting();
         self.counts.used = start;
-        self.counts.waits = None;
+        self.counts.waits = Waiting {
+            pieces: None,
+            count: 0,
+        };
     }
 
     /// Keeps the record as the last one, where there is room.

@@ -7,7 +7,7 @@ ghost use Rattle.draft.specs.Admitted.{image};
 ghost use Rattle.arena.specs.Memory.{layout, Stands, Accepted-prop};
 
 use crate::Draft;
-use crate::home::table_in;
+use crate::home::{is_among, is_inside, table_in};
 use crate::places::Places;
 use crate::slot::Slot;
 use ir::handle::Table;
@@ -62,7 +62,7 @@ impl<'a> View<'a> {
     pub fn is_finished(self) -> bool
         ensures { result ≡ finished (state (viewed self.entry)) }
     {
-        self.draft.counts.opened.is_none() && self.draft.counts.waits.is_none()
+        self.draft.counts.opened.is_none() && self.draft.counts.waits.pieces.is_none()
     }
 
     /// The slots of the kept records.
@@ -122,9 +122,19 @@ impl<'a> View<'a> {
     }
 
     /// How many items a table of this home has.
+    // Not the count of `places`, which took one and a half times as long for a table of the module.
     pub fn count(self, home: Home, table: Table) -> usize
         ensures { result ≡ length (items_in home table (state (viewed self.entry))) }
     {
-        self.places(home, table).count()
+        let wanted = table_in(home, table);
+        let mut inside = false;
+        let mut count = 0;
+        for slot in self.kept_slots() {
+            inside = is_inside(home, inside, *slot);
+            if inside && is_among(wanted, *slot) {
+                count += 1;
+            }
+        }
+        count
     }
 }

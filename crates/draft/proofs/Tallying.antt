@@ -21,7 +21,7 @@ use Rattle.draft.specs.declared.counts.Lengths.{Lengths}
 use Rattle.draft.specs.Manner.{manner_of, turn_of, statement_motion}
 use Rattle.rules.specs.Module.{Record, Module, Body, closed}
 use Rattle.draft.specs.State.{State, stepped, item_of, on_side, turned, deepens, innermost, table_in, open_after, number_of_next, waiting_after}
-use Rattle.draft.specs.Counting.{stack_of, lengths_of, counts_of, counted, counted_more, moved, top, stacked, turned_stack, waits_of, pieces_of, count_of, waiting_more, advanced}
+use Rattle.draft.specs.Counting.{stack_of, lengths_of, counts_of, counted, counted_more, moved, top, stacked, turned_stack, waiting_more, advanced}
 use Rattle.draft.specs.Stacking.{Turns}
 use Rattle.draft.proofs.Stepping.{Admits}
 
@@ -64,18 +64,9 @@ pub counted_is : (s : State) (t : SlotTable) → counted (lengths_of s) t ≡ nu
 counted_is s table.Types = refl
 counted_is s t = refl
 
-pub pieces_is : (w : Option Pieces) (n : ℕ) → pieces_of (waits_of w n) ≡ w
-pieces_is None n = refl
-pieces_is (Some p) n = refl
-
--- where nothing waits, none is counted
-pub count_is : (w : Option Pieces) (ws : List Record) → (w ≡ None → ws ≡ []) → count_of (waits_of w (length ws)) ≡ length ws
-count_is None ws idle = ap length (sym (idle refl))
-count_is (Some p) ws idle = refl
-
-waiting_is : (j w : Option Pieces) (ws : List Record) (r : Record) → (w ≡ None → ws ≡ []) → waits_of j (length (waiting_after j ws r)) ≡ waiting_more j (waits_of w (length ws))
-waiting_is None w ws r idle = refl
-waiting_is (Some p) w ws r idle = ap (λ n. waits_of (Some p) n) (length_push ws r ∙ ap (λ n. n + 1) (sym (count_is w ws idle)))
+waiting_is : (j : Option Pieces) (ws : List Record) (r : Record) → length (waiting_after j ws r) ≡ waiting_more j (length ws)
+waiting_is None ws r = refl
+waiting_is (Some p) ws r = length_push ws r
 
 -- the array of one bracket more
 cons_places : (b : Bracket) (bs : List Bracket) → (stack_of (b ∷ bs)).places ≡ reverse bs ++ b ∷ replicate (64 - suc (length bs)) bracket.Block
@@ -133,11 +124,11 @@ turned_is : (bs : List Bracket) (m : Motion) (t : Option Turn) → turn_of (inne
 turned_is bs m None e d h = refl
 turned_is bs m (Some t) e d h = stacked_is bs t (turns_fit bs m t e d h)
 
-pub counts_after : (s : State) (r : Record) (k : Kind) → Admits s r k → length s.brackets ≤ 64 → (s.waits ≡ None → s.waiting ≡ []) → counts_of (stepped k r s) ≡ advanced (counts_of s) (length r) (manner_of k)
-counts_after s r k a deep idle =
+pub counts_after : (s : State) (r : Record) (k : Kind) → Admits s r k → length s.brackets ≤ 64 → counts_of (stepped k r s) ≡ advanced (counts_of s) (length r) (manner_of k)
+counts_after s r k a deep =
     let l : lengths_of (stepped k r s) ≡ moved (counted_more (lengths_of s) (table_in s.opened (manner_of k).table)) (manner_of k).motion = lengths_after s r k a.on_its_side in
     let t = turned_is s.brackets (manner_of k).motion (turn_of (innermost s.brackets) (manner_of k).motion) refl a.shallow deep in
     let u = ap (λ o. turned_stack (stack_of s.brackets) (turn_of o (manner_of k).motion)) (top_is s.brackets) in
     let v : stack_of (turned (turn_of (innermost s.brackets) (manner_of k).motion) s.brackets) ≡ turned_stack (stack_of s.brackets) (turn_of (top (stack_of s.brackets)) (manner_of k).motion) = t ∙ sym u in
-    let w = waiting_is (manner_of k).joins s.waits s.waiting r idle in
+    let w = waiting_is (manner_of k).joins s.waiting r in
     cc

@@ -36,17 +36,8 @@ lengths_of s = record {
 }
 
 -- what waits, and how many
-abbrev pub waits_of : Option Pieces → ℕ → Option Waiting
-waits_of None n = None
-waits_of (Some p) n = Some (record { pieces = p; count = n })
-
-abbrev pub pieces_of : Option Waiting → Option Pieces
-pieces_of None = None
-pieces_of (Some w) = Some w.pieces
-
-abbrev pub count_of : Option Waiting → ℕ
-count_of None = 0
-count_of (Some w) = w.count
+abbrev pub waits_of : Option Pieces → ℕ → Waiting
+waits_of w n = record { pieces = w; count = n }
 
 -- the draft of a state: what the code holds of it
 abbrev pub counts_of : State → Counts
@@ -105,9 +96,10 @@ abbrev pub turned_stack : Brackets → Option Turn → Brackets
 turned_stack b None = b
 turned_stack b (Some t) = stacked b t
 
--- what waits after a record: one that joins is counted, any other leaves none behind
-abbrev pub waiting_more : Option Pieces → Option Waiting → Option Waiting
-waiting_more w d = waits_of w (count_of d + 1)
+-- how many wait after a record: one that joins is counted, any other leaves none behind
+abbrev pub waiting_more : Option Pieces → ℕ → ℕ
+waiting_more None n = 0
+waiting_more (Some p) n = n + 1
 
 -- the counts after one more record of this size
 abbrev pub advanced : Counts → ℕ → Manner → Counts
@@ -117,9 +109,9 @@ advanced d size m = record {
   lengths = moved (counted_more d.lengths (table_in d.opened m.table)) m.motion;
   opened = open_after m.motion d.opened;
   brackets = turned_stack d.brackets (turn_of (top d.brackets) m.motion);
-  waits = waiting_more m.joins d.waits;
+  waits = waits_of m.joins (waiting_more m.joins d.waits.count);
 }
 
 -- the counts without what waits, which begins here
 abbrev pub freed : Counts → ℕ → Counts
-freed d from = record d { kept = d.kept - count_of d.waits; used = from; waits = None }
+freed d from = record d { kept = d.kept - d.waits.count; used = from; waits = waits_of None 0 }

@@ -5,7 +5,7 @@ ghost use Rattle.draft.specs.declared.manner.Turn.{Turn as AnyTurn};
 ghost use Rattle.draft.specs.Manner.{turn_of};
 ghost use Rattle.draft.specs.State.{start, table_in};
 ghost use Rattle.draft.specs.Stacking.{Turns};
-ghost use Rattle.draft.specs.Counting.{counted, counted_more, moved, top, pieces_of, count_of, counts_of, advanced};
+ghost use Rattle.draft.specs.Counting.{counted, counted_more, moved, top, counts_of, advanced};
 ghost use Rattle.draft.specs.Admitted.{admitted_with};
 
 use crate::behaviour::{is_on_side, manner, meets_what_waits, opened_after, table_in, turn};
@@ -32,9 +32,12 @@ pub struct Lengths {
 }
 
 /// The records that wait for their taker.
+// The count stands beside the pieces and not in their `Option`: `admit` and `advance` take any count, beside no
+// pieces too.
 #[derive(Clone, Copy, PartialEq, Eq, Debug)]
 pub struct Waiting {
-    pub pieces: Pieces,
+    /// What the next record has to join or take, if anything.
+    pub pieces: Option<Pieces>,
     /// How many they are.
     pub count: usize,
 }
@@ -48,7 +51,7 @@ pub struct Counts {
     pub lengths: Lengths,
     pub opened: Option<BodyKind>,
     pub brackets: Brackets,
-    pub waits: Option<Waiting>,
+    pub waits: Waiting,
 }
 
 impl Lengths {
@@ -117,32 +120,28 @@ impl Counts {
             lengths: Lengths::default(),
             opened: None,
             brackets: Brackets::new(),
-            waits: None,
+            waits: Waiting {
+                pieces: None,
+                count: 0,
+            },
         }
     }
 
     /// How many records wait.
     pub fn waiting(&self) -> usize
-        ensures { result ≡ count_of self.now.waits }
+        ensures { result ≡ self.now.waits.count }
     {
-        self.waits.map_or(0, |waits| waits.count)
-    }
-
-    /// What the next record has to join or take.
-    fn pieces(&self) -> Option<Pieces>
-        ensures { result ≡ pieces_of self.now.waits }
-    {
-        self.waits.map(|waits| waits.pieces)
+        self.waits.count
     }
 
     /// The kind of a record that may come next, or why it may not.
     pub fn admit(&self, bytes: &[u8]) -> Result<Kind, Refusal>
         requires { self.now.brackets.depth ≤ 64 }
-        ensures { result ≡ admitted_with (pieces_of self.now.waits) self.now.opened (top self.now.brackets) self.now.brackets.depth (judged bytes.now) }
+        ensures { result ≡ admitted_with self.now.waits.pieces self.now.opened (top self.now.brackets) self.now.brackets.depth (judged bytes.now) }
     {
         let kind = (Record { bytes }).judge()?;
         let ways = manner(kind);
-        if !meets_what_waits(self.pieces(), ways) || !is_on_side(self.opened, ways.side) {
+        if !meets_what_waits(self.waits.pieces, ways) || !is_on_side(self.opened, ways.side) {
             return Err(Refusal::Misplaced);
         }
         match turn(self.brackets.innermost(), ways.motion) {
@@ -156,7 +155,7 @@ impl Counts {
     pub fn advance(&mut self, size: usize, manner: Manner)
         requires used { self.old.used + size < 2 ^ 64 }
         requires kept { self.old.kept + 1 < 2 ^ 64 }
-        requires waiting { count_of self.old.waits + 1 < 2 ^ 64 }
+        requires waiting { self.old.waits.count + 1 < 2 ^ 64 }
         requires number { counted self.old.lengths (table_in self.old.opened manner.table) + 1 < 2 ^ 32 }
         requires depth { self.old.brackets.depth ≤ 64 }
         requires turns { (t : AnyTurn) → turn_of (top self.old.brackets) manner.motion ≡ Some t → Turns self.old.brackets.depth t }
@@ -170,7 +169,13 @@ impl Counts {
         if let Some(turn) = turn(self.brackets.innermost(), manner.motion) {
             self.brackets.apply(turn);
         }
-        let count = self.waiting() + 1;
-        self.waits = manner.joins.map(|pieces| Waiting { pieces, count });
+        let count = match manner.joins {
+            None => 0,
+            Some(_) => self.waits.count + 1,
+        };
+        self.waits = Waiting {
+            pieces: manner.joins,
+            count,
+        };
     }
 }

@@ -10,7 +10,7 @@ use sealed_walk::walking::DraftTable;
 use walk::walk::{Tally, WalkRefusal};
 
 /// The table that a walk wants: one of the draft's, or one that the caller has.
-#[derive(Drop)]
+#[derive(Clone, Copy, Drop)]
 pub enum WantedTable<T> {
     Draft(DraftTable),
     Own(T),
@@ -18,6 +18,7 @@ pub enum WantedTable<T> {
 
 /// A walk: its reading, the table that it wants, and how many places it is lent at most.
 #[derive(Drop)]
+#[derive_where(Clone, Copy; T)]
 pub struct Walk<'a, R, T> {
     pub reading: &'a R,
     pub table: WantedTable<T>,
@@ -27,6 +28,7 @@ pub struct Walk<'a, R, T> {
 /// A call on a draft.
 // Not a closure: a list of calls is data that a caller gives.
 #[derive(Drop)]
+#[derive_where(Clone, Copy; T)]
 pub enum Call<'a, R, T> {
     Put(&'a [u8]),
     Check,

@@ -1,6 +1,5 @@
 //! The kinds of records, and the fields of each.
-ghost use Rattle.std.specs.Prelude.{◌≡◌, ◌≤◌, length, sum_by};
-ghost use Rattle.ir.specs.Field.{width_of};
+ghost use Rattle.std.specs.Prelude.{◌≡◌, ◌≤◌, length};
 ghost use Rattle.ir.specs.Layout.{layout, type_layout, expression_layout, statement_layout, size_of};
 
 use crate::fields::{Cases, Field, Word};
@@ -148,13 +147,6 @@ pub enum Statement {
     CooperativeStore,
 }
 
-fn total_width(fields: &[Field]) -> usize
-    requires { length fields.now ≤ 11 }
-    ensures { result ≡ sum_by width_of fields.now }
-{
-    fields.iter().map(|field| field.width()).sum()
-}
-
 impl Kind {
     /// The fields of the body, in order.
     pub fn layout(self) -> &'static [Field]
@@ -210,7 +202,31 @@ impl Kind {
     pub fn size(self) -> usize
         ensures { result ≡ size_of (layout self) }
     {
-        total_width(self.layout())
+        match self {
+            Kind::Member => 16,
+            Kind::Operand => 4,
+            Kind::Override => 16,
+            Kind::Constant => 12,
+            Kind::GlobalVariable => 24,
+            Kind::SpecialTypes => 20,
+            Kind::Predeclared => 8,
+            Kind::Filter => 8,
+            Kind::Leaf => 4,
+            Kind::Function => 8,
+            Kind::EntryPoint => 73,
+            Kind::FunctionArgument => 12,
+            Kind::FunctionResult => 8,
+            Kind::LocalVariable => 12,
+            Kind::Type(inner) => inner.size(),
+            Kind::Named => 8,
+            Kind::EndFunction => 0,
+            Kind::Expression(expression) => expression.size(),
+            Kind::Statement(statement) => statement.size(),
+            Kind::End => 0,
+            Kind::EndLoop => 4,
+            Kind::Case => 5,
+            Kind::EndSwitch => 0,
+        }
     }
 }
 
@@ -234,6 +250,28 @@ impl TypeInner {
             TypeInner::AccelerationStructure => &[MARK, FLAG],
             TypeInner::RayQuery => &[MARK, FLAG],
             TypeInner::BindingArray => &[MARK, TYPE, Field::Case(Cases::ArraySize)],
+        }
+    }
+
+    /// How many bytes those have.
+    fn size(self) -> usize
+        ensures { result ≡ size_of (type_layout self) }
+    {
+        match self {
+            TypeInner::Scalar => 8,
+            TypeInner::Vector => 12,
+            TypeInner::Matrix => 16,
+            TypeInner::CooperativeMatrix => 20,
+            TypeInner::Atomic => 8,
+            TypeInner::Pointer => 12,
+            TypeInner::ValuePointer => 16,
+            TypeInner::Array => 17,
+            TypeInner::Struct => 8,
+            TypeInner::Image => 13,
+            TypeInner::Sampler => 5,
+            TypeInner::AccelerationStructure => 5,
+            TypeInner::RayQuery => 5,
+            TypeInner::BindingArray => 13,
         }
     }
 }
@@ -302,6 +340,48 @@ impl Expression {
             Expression::CooperativeMultiplyAdd => &[EXPRESSION, EXPRESSION, EXPRESSION],
         }
     }
+
+    /// How many bytes those have.
+    fn size(self) -> usize
+        ensures { result ≡ size_of (expression_layout self) }
+    {
+        match self {
+            Expression::Literal => 4,
+            Expression::Constant => 4,
+            Expression::Override => 4,
+            Expression::ZeroValue => 4,
+            Expression::Compose => 4,
+            Expression::Access => 8,
+            Expression::AccessIndex => 8,
+            Expression::Splat => 8,
+            Expression::Swizzle => 12,
+            Expression::FunctionArgument => 4,
+            Expression::GlobalVariable => 4,
+            Expression::LocalVariable => 4,
+            Expression::Load => 4,
+            Expression::ImageSample => 38,
+            Expression::ImageLoad => 20,
+            Expression::ImageQuery => 9,
+            Expression::Unary => 8,
+            Expression::Binary => 12,
+            Expression::Select => 12,
+            Expression::Derivative => 12,
+            Expression::Relational => 8,
+            Expression::Math => 20,
+            Expression::As => 12,
+            Expression::CallResult => 4,
+            Expression::AtomicResult => 5,
+            Expression::WorkGroupUniformLoadResult => 4,
+            Expression::ArrayLength => 4,
+            Expression::RayQueryVertexPositions => 5,
+            Expression::RayQueryProceedResult => 0,
+            Expression::RayQueryGetIntersection => 5,
+            Expression::SubgroupBallotResult => 0,
+            Expression::SubgroupOperationResult => 4,
+            Expression::CooperativeLoad => 21,
+            Expression::CooperativeMultiplyAdd => 12,
+        }
+    }
 }
 
 impl Statement {
@@ -344,6 +424,37 @@ impl Statement {
             Statement::SubgroupGather => &[Field::Case(Cases::GatherMode), EXPRESSION, EXPRESSION],
             Statement::SubgroupCollectiveOperation => &[MARK, MARK, EXPRESSION, EXPRESSION],
             Statement::CooperativeStore => &[EXPRESSION, EXPRESSION, EXPRESSION, FLAG],
+        }
+    }
+
+    /// How many bytes those have.
+    fn size(self) -> usize
+        ensures { result ≡ size_of (statement_layout self) }
+    {
+        match self {
+            Statement::Emit => 8,
+            Statement::Block => 0,
+            Statement::If => 4,
+            Statement::Switch => 4,
+            Statement::Loop => 0,
+            Statement::Break => 0,
+            Statement::Continue => 0,
+            Statement::Return => 4,
+            Statement::Kill => 0,
+            Statement::ControlBarrier => 4,
+            Statement::MemoryBarrier => 4,
+            Statement::Store => 8,
+            Statement::ImageStore => 16,
+            Statement::Atomic => 17,
+            Statement::ImageAtomic => 21,
+            Statement::WorkGroupUniformLoad => 8,
+            Statement::Call => 8,
+            Statement::RayQuery => 13,
+            Statement::RayPipelineFunction => 13,
+            Statement::SubgroupBallot => 8,
+            Statement::SubgroupGather => 13,
+            Statement::SubgroupCollectiveOperation => 16,
+            Statement::CooperativeStore => 13,
         }
     }
 }

@@ -55,6 +55,7 @@ impl<'a> Iterator for Words<'a> {
 
     ghost remaining = { item_count words_left };
 
+    #[inline(always)]
     fn next(&mut self) -> Option<(Word, u32)> {
         let ([word, words @ ..], [a, b, c, d, bytes @ ..]) = (self.words, self.bytes) else {
             return None;
@@ -70,6 +71,7 @@ impl<'a> Placed<'a> {
     ghost use Rattle.records.specs.Record.{field_fits};
 
     /// Its words, with what each holds: none where the byte of its case is no case.
+    #[inline(always)]
     pub fn words(self) -> Option<Words<'a>>
         ensures { MatchOption result (field_words self.entry.field.now self.entry.bytes.now ≡ None) (λ ws. field_words self.entry.field.now self.entry.bytes.now ≡ Some (words_left ws)) }
     {
@@ -87,6 +89,7 @@ impl<'a> Placed<'a> {
     }
 
     /// Whether it holds what it may.
+    #[inline(always)]
     fn fits(self) -> bool
         ensures { result ≡ field_fits self.entry.field.now self.entry.bytes.now }
     {
@@ -136,6 +139,7 @@ impl<'a> Iterator for Body<'a> {
 
     ghost remaining = { item_count body_left };
 
+    #[inline(always)]
     fn next(&mut self) -> Option<Placed<'a>> {
         let [field, fields @ ..] = self.fields else {
             return None;

@@ -23,6 +23,7 @@ pub struct Handles<'a> {
 /// The first word that is a handle, and the words behind it are left.
 // Not by `find_map`, of which the proof did not close: where it gives `None`, its contract does not say that
 // no word is left.
+#[inline(always)]
 fn next_handle(words: &mut Words<'_>) -> Option<Handle>
     ensures { YieldsFirst word_handles words.old result words.new }
 {
@@ -35,6 +36,7 @@ fn next_handle(words: &mut Words<'_>) -> Option<Handle>
 }
 
 /// The words of a field: none where the byte of its case is no case.
+#[inline(always)]
 fn words_of(field: Placed<'_>) -> Words<'_>
     ensures { word_handles result ≡ handles_at (placed_at field.entry) }
 {
@@ -88,6 +90,7 @@ impl<'a> Iterator for Handles<'a> {
     ghost remaining = { item_count handles_left };
 
     // A flatten by hand: `FlatMap` has a closure in its type, which a field cannot name.
+    #[inline(always)]
     fn next(&mut self) -> Option<Handle> {
         if let Some(handle) = next_handle(&mut self.front) {
             return Some(handle);

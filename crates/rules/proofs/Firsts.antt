@@ -50,6 +50,11 @@ skip_counted f (suc k) n j (x ∷ xs) e h =
 pub skip_front : {X : Type 0} (f : ℕ → X → List Test) (k : ℕ) (xs : List X) → ((x : ℕ) (i : X) → slice_get xs x ≡ Some i → x < k → AllHold (f x i)) → first (numbered f xs) ≡ first (numbered_from f k (drop k xs))
 skip_front f k xs h = skip_counted f k 0 k xs (omega arith) (λ x i y s l q. let same : x ≡ y = omega arith in subst (λ z. AllHold (f z i)) same (h x i s l))
 
+-- tests that ask for no number
+pub unnumbered : {X : Type 0} (f : X → List Test) (n : ℕ) (xs : List X) → numbered_from (λ _ x. f x) n xs ≡ flat_map f xs
+unnumbered f n [] = refl
+unnumbered f n (x ∷ xs) = ap (λ l. f x ++ l) (unnumbered f (suc n) xs)
+
 -- the tests of the items of two lists, counted on
 pub numbered_append : {X : Type 0} (tests : ℕ → X → List Test) (n : ℕ) (xs ys : List X) → numbered_from tests n (xs ++ ys) ≡ numbered_from tests n xs ++ numbered_from tests (n + length xs) ys
 numbered_append tests n [] ys = let same : n ≡ n + 0 = omega arith in ap (λ k. numbered_from tests k ys) same
